@@ -18,7 +18,7 @@ use Rattle.std.proofs.lemmas.List.Folds.{find-append}
 use Rattle.std.proofs.lemmas.Map.Text.{is_eq-slice_cmp}
 use Rattle.proto_types.specs.declared.records.field.FieldDescriptorProto.{FieldDescriptorProto}
 use Rattle.plain_data.specs.Lists.{listed}
-use Rattle.proto_types.specs.Readers.{number_of, text_of}
+use Rattle.proto_types.specs.Readers.{number_of}
 use Rattle.proto_types.specs.declared.file.FileDescriptorProto.{FileDescriptorProto}
 use Rattle.record_walk.specs.Counts.{fits_list}
 use Rattle.plain_data.specs.Maps.{ByNumber, ByText, inserted}

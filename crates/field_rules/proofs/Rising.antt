@@ -1,5 +1,5 @@
 -- Values whose numbers rise: none before a value has its number.
-use Rattle.std.proofs.Common.{◌≡◌, ℕ, zero, suc, ℤ, ◌+◌, ◌<◌, Bool, true, false, cond, List, [], ◌∷◌, length, take, get_or, find, None, Some, refl, ap, sym, subst, ◌∙◌, arith}
+use Rattle.std.proofs.Common.{◌≡◌, ℕ, zero, suc, ℤ, ◌+◌, ◌<◌, true, false, cond, List, [], ◌∷◌, length, take, get_or, find, None, Some, refl, ap, sym, subst, ◌∙◌, arith}
 use Rattle.std.specs.Cmp.{int_cmp_total}
 use Rattle.std.specs.List.{enumerate_from}
 use Rattle.std.specs.Ordering.{int_cmp, int_eq, is_eq}

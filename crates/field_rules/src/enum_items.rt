@@ -24,6 +24,8 @@ use std::alloc::{AllocError, Global};
 ///
 /// # Errors
 /// `AllocError` where memory was refused.
+// Inlined, as the one below is, so that the item is made where it stays.
+#[inline(always)]
 pub fn read_enum(
     faults: &mut Faults,
     place: Place,
@@ -42,6 +44,7 @@ pub fn read_enum(
     enum_item(faults.alloc, place, enumeration)
 }
 
+#[inline(always)]
 fn enum_item(
     alloc: Global,
     place: Place,
@@ -84,10 +87,12 @@ fn read_values(
             position,
         };
         let id = identity_beside(alloc, place, own_name, at, value.name())?;
-        items.push(EnumValueDescriptorInner {
+        // Room first, so that an item is made where it stays.
+        items.reserve(1)?;
+        items.push_reserved(EnumValueDescriptorInner {
             id,
             number: value.number(),
-        })?;
+        });
     }
     Ok(items)
 }

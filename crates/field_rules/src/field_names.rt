@@ -9,6 +9,9 @@ use plain_data::NameList;
 use proto_types::FieldDescriptorProto;
 use std::alloc::{AllocError, Global};
 
+/// How few names stand by themselves in a list.
+const FEW: usize = 64;
+
 /// The name of each field, with its position.
 pub(crate) fn name_list(
     alloc: Global,
@@ -17,7 +20,13 @@ pub(crate) fn name_list(
     requires { fits_list fields.now ≡ true }
     ensures { IfOk result (λ names. names ≡ keyed (λ f. Some (text_of f.name)) fields.now) }
 {
-    let mut names = NameList::with_capacity(alloc, fields.len(), name_bytes(fields))?;
+    // Few names stand by themselves, so that their bytes need not be counted.
+    let bytes = if fields.len() <= FEW {
+        0
+    } else {
+        name_bytes(fields)
+    };
+    let mut names = NameList::with_capacity(alloc, fields.len(), bytes)?;
     for (position, field) in fields.iter().enumerate() {
         names.push(field.name(), position as u32)?;
     }

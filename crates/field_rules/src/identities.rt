@@ -1,4 +1,5 @@
-ghost use Rattle.std.specs.Prelude.{◌≡◌, ◌∷◌, ◌++◌, ◌<◌, ◌^◌, List, IfOk, OnOk};
+ghost use Rattle.std.specs.Prelude.{◌≡◌, ◌∷◌, ◌++◌, ◌<◌, ◌^◌, ◌-◌, List, IfOk, OnOk, length};
+ghost use Rattle.std.specs.Str.{IsCharBoundary};
 ghost use Rattle.proto_types.specs.Names.{join};
 ghost use Rattle.proto_types.specs.Readers.{text_of};
 ghost use Rattle.proto_types.specs.declared.records.field.FieldDescriptorProto.{FieldDescriptorProto};
@@ -12,7 +13,7 @@ ghost use Rattle.field_rules.specs.NamesBegin.{BeginsAtBoundary};
 use crate::inner_names::InnerNames;
 use plain_data::{Path, Text};
 use pool_types::Identity;
-use proto_types::{FieldDescriptorProto, join_text, tag};
+use proto_types::{FieldDescriptorProto, join_text, joined_len, tag};
 use record_walk::Place;
 use std::alloc::{AllocError, Global};
 
@@ -29,9 +30,12 @@ pub fn identity(alloc: Global, place: Place, name: &str) -> Result<Identity, All
     ensures begins { IfOk result (λ id. EndsWith place.entry.full_name.now name.now
         → BeginsAtBoundary id) }
 {
-    let path = Path::from_slice(alloc, place.path)?;
-    let full_name = Text::from_str(alloc, place.full_name)?;
-    Ok(named_at(place.file, path, full_name, name))
+    Ok(Identity {
+        file: place.file,
+        path: Path::from_slice(alloc, place.path)?,
+        full_name: Text::from_str(alloc, place.full_name)?,
+        name_index: place.full_name.len().saturating_sub(name.len()),
+    })
 }
 
 /// The place of an entry in a list of a declaration.
@@ -61,9 +65,12 @@ pub fn identity_inside(
         (join place.entry.full_name.now name.now) name.now) }
     ensures begins { IfOk result (λ id. BeginsAtBoundary id) }
 {
-    let path = Path::below(alloc, place.path, at.tag, at.position as i32)?;
-    let full_name = join_text(alloc, place.full_name, name)?;
-    Ok(named_at(place.file, path, full_name, name))
+    Ok(Identity {
+        file: place.file,
+        path: Path::below(alloc, place.path, at.tag, at.position as i32)?,
+        full_name: join_text(alloc, place.full_name, name)?,
+        name_index: index_inside(place.full_name, name),
+    })
 }
 
 /// Where the next field of a message stands, whose full name is taken. Its position is below 2 to
@@ -90,9 +97,12 @@ pub fn identity_of_field(
         → AreNamesOf names.new message.entry.full_name.now rest) }
 {
     let tag = tag::message::FIELD;
-    let path = Path::below(names.alloc, message.path, tag, position as i32)?;
-    let full_name = names.next(message.full_name, field)?;
-    Ok(named_at(message.file, path, full_name, field.name()))
+    Ok(Identity {
+        file: message.file,
+        path: Path::below(names.alloc, message.path, tag, position as i32)?,
+        full_name: names.next(message.full_name, field)?,
+        name_index: index_inside(message.full_name, field.name()),
+    })
 }
 
 /// Where an entry of a list of a declaration stands that is named beside it. The declaration's own
@@ -116,24 +126,22 @@ pub fn identity_beside(
         (before_ending place.entry.full_name.now own_name.now ++ name.now) name.now) }
     ensures begins { IfOk result (λ id. BeginsAtBoundary id) }
 {
-    let path = Path::below(alloc, place.path, at.tag, at.position as i32)?;
     let around = front(place.full_name, own_name);
-    let full_name = Text::concatenated(alloc, around, "", name)?;
-    Ok(named_at(place.file, path, full_name, name))
+    Ok(Identity {
+        file: place.file,
+        path: Path::below(alloc, place.path, at.tag, at.position as i32)?,
+        full_name: Text::concatenated(alloc, around, "", name)?,
+        name_index: around.len(),
+    })
 }
 
-/// Where a declaration of this full name stands, which ends with its name.
+/// Where a name begins in the full name that it has inside a scope, where a character begins.
 #[inline(always)]
-fn named_at(file: u32, path: Path, full_name: Text, name: &str) -> Identity
-    ensures id { result ≡ named_at file path full_name name.now }
-    ensures begins { EndsWith full_name name.now → BeginsAtBoundary result }
+fn index_inside(scope: &str, name: &str) -> usize
+    ensures index { result ≡ length (join scope.now name.now) - length name.now }
+    ensures begins { IsCharBoundary (join scope.now name.now) result }
 {
-    Identity {
-        file,
-        path,
-        name_index: full_name.as_str().len().saturating_sub(name.len()),
-        full_name,
-    }
+    joined_len(scope, name).saturating_sub(name.len())
 }
 
 /// The text before its ending.

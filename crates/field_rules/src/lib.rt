@@ -46,7 +46,7 @@ pub use inner_names::InnerNames;
 pub use laws::{escaped_is_one, refused_is_one, unescaped_is_escaped};
 pub use maps::{FieldMaps, item_number};
 pub use message_ranges::MessageRanges;
-pub use numbers::{check_extension_number, check_field_number};
+pub use numbers::{check_extension_number, check_field_number, is_free_number};
 pub use oneofs::{check_oneof_index, members, oneof_of};
 pub use owner::Owner;
 pub use simple::parse_simple_value;

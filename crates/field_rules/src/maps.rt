@@ -38,6 +38,8 @@ impl FieldMaps {
     ///
     /// # Errors
     /// `AllocError` where memory was refused.
+    // Inlined, so that the maps are made where they stay.
+    #[inline(always)]
     pub fn new(alloc: Global, fields: &[FieldDescriptorProto]) -> Result<FieldMaps, AllocError>
         requires { fits_list fields.now ≡ true }
         ensures { IfOk result (λ maps. AreMapsOf maps fields.now 0) }
@@ -63,26 +65,27 @@ impl FieldMaps {
     pub fn insert(
         &mut self,
         faults: &mut Faults,
-        owner: Owner,
+        owner: &Owner,
         position: usize,
     ) -> Result<(), AllocError>
-        requires short { fits_list (out-DescriptorProto owner.message.now).field ≡ true }
-        requires there { position < length (out-DescriptorProto owner.message.now).field }
-        requires maps { AreMapsOf self.old (out-DescriptorProto owner.message.now).field position }
+        requires short { fits_list (out-DescriptorProto owner.now.message.now).field ≡ true }
+        requires there { position < length (out-DescriptorProto owner.now.message.now).field }
+        requires maps { AreMapsOf self.old
+            (out-DescriptorProto owner.now.message.now).field position }
         ensures maps { OnOk result (AreMapsOf self.new
-            (out-DescriptorProto owner.entry.message.now).field (position + 1)) }
+            (out-DescriptorProto owner.now.message.now).field (position + 1)) }
         ensures faults { OnOk result (Tells faults.old faults.new
             (duplicate_faults (named_files faults.old)
-            owner.entry.place.file owner.entry.place.path.now
-            (take position (out-DescriptorProto owner.entry.message.now).field) position
-            (get_or (out-DescriptorProto owner.entry.message.now).field position no_field))) }
+            owner.now.place.file owner.now.place.path.now
+            (take position (out-DescriptorProto owner.now.message.now).field) position
+            (get_or (out-DescriptorProto owner.now.message.now).field position no_field))) }
     {
         let field = &owner.message.field.as_slice()[position];
         let number = field.number();
         let first = self.numbers.replace(item_number(number), position as u32)?;
-        check_number(faults, owner.place, first, position, number)?;
+        check_number(faults, &owner.place, first, position, number)?;
         match &mut self.earlier {
-            Some(earlier) => enter_json_name(faults, owner.place, earlier, position, field),
+            Some(earlier) => enter_json_name(faults, &owner.place, earlier, position, field),
             None => Ok(()),
         }
     }
@@ -105,7 +108,7 @@ fn earlier_names(alloc: Global, json_names: &TextMap, given: usize) -> Option<Te
 #[inline(never)]
 fn enter_json_name(
     faults: &mut Faults,
-    owner: Place,
+    owner: &Place,
     json_names: &mut TextMap,
     position: usize,
     field: &FieldDescriptorProto,
@@ -118,13 +121,13 @@ fn enter_json_name(
         field.now.json_name json_names.old) }
     ensures faults { OnOk result (Tells faults.old faults.new
         (option_map_or (λ name. listed (option_map (λ first. same_json_name
-        (named_files faults.old) owner.entry.file owner.entry.path.now name first position)
+        (named_files faults.old) owner.now.file owner.now.path.now name first position)
         (finite.get json_names.old name))) field.now.json_name [])) }
 {
     let Some(name) = &field.json_name else {
         return Ok(());
     };
-    check_json_name(faults, owner, json_names, position, name)?;
+    check_json_name(faults, *owner, json_names, position, name)?;
     json_names.insert(name.as_str(), position as u32)
 }
 
@@ -132,7 +135,7 @@ fn enter_json_name(
 /// stands first.
 fn check_number(
     faults: &mut Faults,
-    owner: Place,
+    owner: &Place,
     first: Option<u32>,
     position: usize,
     number: i32,
@@ -140,8 +143,8 @@ fn check_number(
     requires short { position < 2 ^ 31 }
     requires first_short { IfSome first (λ first. first < 2 ^ 31) }
     ensures { OnOk result (Tells faults.old faults.new
-        (listed (option_map (λ first. same_number (named_files faults.old) owner.entry.file
-        owner.entry.path.now number first position) first))) }
+        (listed (option_map (λ first. same_number (named_files faults.old) owner.now.file
+        owner.now.path.now number first position) first))) }
 {
     match first {
         Some(first) => tell_same_number(faults, owner, first as usize, position, number),
@@ -154,7 +157,7 @@ fn check_number(
 #[inline(never)]
 fn tell_same_number(
     faults: &mut Faults,
-    owner: Place,
+    owner: &Place,
     first: usize,
     second: usize,
     number: i32,
@@ -162,10 +165,10 @@ fn tell_same_number(
     requires first_short { first < 2 ^ 31 }
     requires second_short { second < 2 ^ 31 }
     ensures { OnOk result (Tells faults.old faults.new
-        (same_number (named_files faults.old) owner.entry.file owner.entry.path.now
+        (same_number (named_files faults.old) owner.now.file owner.now.path.now
         number first second ∷ [])) }
 {
-    let fault = same_number(faults, owner, number, first, second)?;
+    let fault = same_number(faults, *owner, number, first, second)?;
     faults.push(fault)
 }
 

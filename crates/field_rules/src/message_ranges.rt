@@ -19,6 +19,8 @@ impl MessageRanges {
     ///
     /// # Errors
     /// `AllocError` where memory was refused.
+    // Inlined, so that the ranges are made where they stay.
+    #[inline(always)]
     pub fn new(alloc: Global, message: &DescriptorProto) -> Result<MessageRanges, AllocError>
         ensures { IfOk result (λ ranges. AreRangesOf ranges message.now) }
     {

@@ -3,7 +3,7 @@ ghost use Rattle.field_rules.specs.NumberRanges.{holds, first_from};
 ghost use Rattle.field_rules.specs.RangeTables.{end_of};
 
 use crate::range_tables::push_table;
-use crate::stretch::{Stretch, first_in};
+use crate::stretch::{Stretch, first_in, first_listed};
 use std::alloc::{AllocError, Global};
 use std::marker::Model;
 
@@ -78,6 +78,8 @@ impl NumberRanges {
 
     /// The position of the first range, from a position on, that holds a number. Positions count
     /// from 0. It takes no memory, and about as many steps as halvings of the ranges, squared.
+    // Inlined, as `new` is.
+    #[inline(always)]
     pub fn first_from(&self, from: usize, number: i32) -> Option<usize>
         ensures first { result ≡ first_from (holds number) from self.now }
         ensures there { IfSome result (λ found. found < length self.now) }
@@ -85,6 +87,9 @@ impl NumberRanges {
         let ranges = self.ranges.as_slice();
         if from >= ranges.len() {
             return None;
+        }
+        if self.levels == 0 {
+            return first_listed(ranges, from, number);
         }
         let stretch = Stretch {
             ranges,

@@ -1,4 +1,7 @@
-ghost use Rattle.std.specs.Prelude.{◌≡◌, true, OnOk};
+ghost use Rattle.std.specs.Prelude.{◌≡◌, List, [], true, IsTrue, OnOk};
+ghost use Rattle.proto_types.specs.declared.file.FileDescriptorProto.{FileDescriptorProto};
+ghost use Rattle.proto_types.specs.declared.message.DescriptorProto.{DescriptorProto};
+ghost use Rattle.record_walk.specs.Shown.{Shown};
 ghost use Rattle.record_walk.specs.Counts.{lists_fit};
 ghost use Rattle.record_walk.specs.Protos.{of_message, of_field, of_extension};
 ghost use Rattle.record_walk.specs.Place.{message_at, shown_at};
@@ -8,6 +11,7 @@ ghost use Rattle.field_rules.specs.Numbers.{field_number_faults, extension_numbe
 
 use crate::Owner;
 use crate::extension_ranges::{any_extends, check_extension_ranges, check_in_some_range};
+use crate::field_number::is_valid_number;
 use crate::message_ranges::MessageRanges;
 use crate::reserved::{check_reserved_by, check_reserved_ranges, check_valid};
 use proto_types::FieldDescriptorProto;
@@ -41,6 +45,23 @@ pub fn check_field_number(
     check_valid(faults, place, number)?;
     check_reserved_by(faults, owner, &ranges.reserved, place, number)?;
     check_extension_ranges(faults, owner, &ranges.extension, place, field)
+}
+
+/// Whether the number of a field without an extendee breaks nothing, by the ranges of its message.
+#[inline(always)]
+pub fn is_free_number(ranges: &MessageRanges, field: &FieldDescriptorProto) -> bool
+    ensures { IsTrue result → (files : List FileDescriptorProto) (owner d : Shown)
+        (message : DescriptorProto) → AreRangesOf ranges.now message
+        → field_number_faults files owner message d field.now ≡ [] }
+{
+    let number = field.number();
+    if field.extendee.is_some() || !is_valid_number(number) {
+        return false;
+    }
+    if ranges.reserved.first_from(0, number).is_some() {
+        return false;
+    }
+    ranges.extension.first_from(0, number).is_none()
 }
 
 /// Appends to `faults` what the number of an extension breaks, by the record of the message that it

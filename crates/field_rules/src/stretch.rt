@@ -80,7 +80,9 @@ fn tables_below(table: &[i32], count: usize, below: usize) -> (&[i32], &[i32])
 
 /// The position of the first range, from a position on, that holds a number, as one after another
 /// is looked at.
-fn first_listed(ranges: &[(i32, i32)], from: usize, number: i32) -> Option<usize>
+// Inlined, as the one below is, since most messages have few ranges.
+#[inline(always)]
+pub(crate) fn first_listed(ranges: &[(i32, i32)], from: usize, number: i32) -> Option<usize>
     requires { from ≤ length ranges.now }
     ensures { result ≡ first_from (holds number) from ranges.now }
 {
@@ -89,6 +91,7 @@ fn first_listed(ranges: &[(i32, i32)], from: usize, number: i32) -> Option<usize
 }
 
 /// The position of the first range that holds a number.
+#[inline(always)]
 fn first_that_holds(ranges: &[(i32, i32)], number: i32) -> Option<usize>
     ensures first { result ≡ position (holds number) ranges.now }
     ensures there { IfSome result (λ found. found < length ranges.now) }

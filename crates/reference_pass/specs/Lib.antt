@@ -1,6 +1,7 @@
 pub mod Setting
 pub mod Linked
 pub mod Types
+pub mod Plain
 pub mod References
 pub mod Definitions
 pub mod Numbered

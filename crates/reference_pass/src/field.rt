@@ -1,5 +1,6 @@
-ghost use Rattle.std.specs.Prelude.{◌≡◌, ◌+◌, ◌<◌, true, IfOk, OnOk, length, drop, get_or};
-ghost use Rattle.std.specs.Prelude.{unwrap_or};
+ghost use Rattle.std.specs.Prelude.{◌≡◌, ◌+◌, ◌<◌, ◌^◌, ◌++◌, true, IfOk, OnOk, length, drop};
+ghost use Rattle.std.specs.Prelude.{get_or, unwrap_or};
+ghost use Rattle.proto_types.specs.declared.records.field.FieldDescriptorProto.{FieldDescriptorProto};
 ghost use Rattle.pool_types.specs.declared.kinds.KindIndex.TheVariants.{Double};
 ghost use Rattle.proto_types.specs.Field.{no_field};
 ghost use Rattle.proto_types.specs.declared.message.DescriptorProto.{out-DescriptorProto};
@@ -8,8 +9,10 @@ ghost use Rattle.record_walk.specs.Protos.{of_field, of_message};
 ghost use Rattle.field_rules.specs.Bounds.{AreRangesOf};
 ghost use Rattle.field_rules.specs.InnerNames.{AreNamesOf};
 ghost use Rattle.reference_pass.specs.SecondPass.{field_record_faults};
-ghost use Rattle.reference_pass.specs.Defaults.{field_default};
-ghost use Rattle.reference_pass.specs.Types.{field_kind};
+ghost use Rattle.reference_pass.specs.Defaults.{field_default, field_default_faults};
+ghost use Rattle.reference_pass.specs.Types.{field_kind, type_faults};
+ghost use Rattle.reference_pass.specs.Plain.{field_of, field_shown, record_of};
+ghost use Rattle.field_rules.specs.Numbers.{field_number_faults};
 ghost use Rattle.reference_pass.specs.Items.{field_item};
 ghost use Rattle.reference_pass.specs.Reading.{ReadingTells, setting_of};
 ghost use Rattle.field_rules.specs.NamesBegin.{BeginsAtBoundary};
@@ -17,16 +20,15 @@ ghost use Rattle.record_walk.specs.Place.{field_at, inside_of, message_at, shown
 ghost use Rattle.pool_types.specs.Syntaxes.{is_proto3, syntax_at};
 
 use crate::reading::Reading;
-use crate::types::type_and_default;
+use crate::types::{plain_kind, type_and_default};
 use field_rules::{
     InnerNames, MessageRanges, Owner, check_field_number, check_oneof_index, identity_of_field,
-    is_packed, item_number, oneof_of, supports_presence,
+    is_free_number, is_packed, item_number, oneof_of, supports_presence,
 };
 use plain_data::duplicate_option;
 use pool_types::{
-    DefaultValue, FieldDescriptorInner, KindIndex, Syntax, cardinality_of, syntax_at,
+    DefaultValue, FieldDescriptorInner, Identity, KindIndex, Syntax, cardinality_of, syntax_at,
 };
-use proto_types::FieldDescriptorProto;
 use record_walk::Place;
 use std::alloc::AllocError;
 
@@ -43,45 +45,38 @@ pub(crate) struct FieldOwner<'a> {
 /// breaks by itself is appended to `reading`: its number, its type, its default value, its oneof.
 pub(crate) fn read_field(
     reading: &mut Reading,
-    of: FieldOwner,
+    of: &FieldOwner,
     names: &mut InnerNames,
     position: usize,
 ) -> Result<FieldDescriptorInner, AllocError>
-    requires short { lists_fit (of_message of.owner.message.now) ≡ true }
-    requires ranges { AreRangesOf of.ranges.now of.owner.message.now }
-    requires proto3 { of.is_proto3
-        ≡ is_proto3 (syntax_at (setting_of reading.old).files of.owner.place.file) }
-    requires there { position < length (out-DescriptorProto of.owner.message.now).field }
-    requires names { AreNamesOf names.old of.owner.place.full_name.now
-        (drop position (out-DescriptorProto of.owner.message.now).field) }
+    requires short { lists_fit (of_message of.now.owner.message.now) ≡ true }
+    requires ranges { AreRangesOf of.now.ranges.now of.now.owner.message.now }
+    requires proto3 { of.now.is_proto3
+        ≡ is_proto3 (syntax_at (setting_of reading.old).files of.now.owner.place.file) }
+    requires there { position < length (out-DescriptorProto of.now.owner.message.now).field }
+    requires names { AreNamesOf names.old of.now.owner.place.full_name.now
+        (drop position (out-DescriptorProto of.now.owner.message.now).field) }
     ensures item { IfOk result (λ item. item
         ≡ field_item (setting_of reading.old)
-        (out-DescriptorProto of.entry.owner.message.now).oneof_decl
-        (field_at (inside_of of.entry.owner.place) position
-        (get_or (out-DescriptorProto of.entry.owner.message.now).field position no_field))
-        (get_or (out-DescriptorProto of.entry.owner.message.now).field position no_field)) }
+        (out-DescriptorProto of.now.owner.message.now).oneof_decl
+        (field_at (inside_of of.now.owner.place) position
+        (get_or (out-DescriptorProto of.now.owner.message.now).field position no_field))
+        (get_or (out-DescriptorProto of.now.owner.message.now).field position no_field)) }
     ensures begins { IfOk result (λ item. BeginsAtBoundary item.id) }
-    ensures names { OnOk result (AreNamesOf names.new of.entry.owner.place.full_name.now
-        (drop (position + 1) (out-DescriptorProto of.entry.owner.message.now).field)) }
+    ensures names { OnOk result (AreNamesOf names.new of.now.owner.place.full_name.now
+        (drop (position + 1) (out-DescriptorProto of.now.owner.message.now).field)) }
     ensures faults { OnOk result (ReadingTells reading.old reading.new
         (field_record_faults (setting_of reading.old)
-        (message_at of.entry.owner.place of.entry.owner.message.now, of.entry.owner.message.now)
-        (field_at (inside_of of.entry.owner.place) position
-        (get_or (out-DescriptorProto of.entry.owner.message.now).field position no_field))
-        (get_or (out-DescriptorProto of.entry.owner.message.now).field position no_field))) }
+        (message_at of.now.owner.place of.now.owner.message.now, of.now.owner.message.now)
+        (field_at (inside_of of.now.owner.place) position
+        (get_or (out-DescriptorProto of.now.owner.message.now).field position no_field))
+        (get_or (out-DescriptorProto of.now.owner.message.now).field position no_field))) }
 {
     let alloc = reading.faults.alloc;
     let around = of.owner.place;
     let field = &of.owner.message.field.as_slice()[position];
     let id = identity_of_field(names, around, position, field)?;
-    let place = Place {
-        file: around.file,
-        parent: Some(around.index),
-        index: position as u32,
-        path: id.path.as_slice(),
-        full_name: id.full_name.as_str(),
-    };
-    let (kind, default) = check_field(reading, of, place, field)?;
+    let (kind, default) = check_field(reading, of, &id, position)?;
     let json_name = duplicate_option(alloc, &field.json_name)?;
     let oneofs = of.owner.message.oneof_decl.as_slice();
     Ok(FieldDescriptorInner {
@@ -100,29 +95,148 @@ pub(crate) fn read_field(
 /// The kind of the type of a field of a message and its default value, where one is given; where
 /// the type has a fault, a number stands in for it. What the field breaks by itself is appended to
 /// `reading`.
+// Inlined, so that its answer is not written to memory.
+#[inline(always)]
 fn check_field(
     reading: &mut Reading,
-    of: FieldOwner,
-    place: Place,
-    field: &FieldDescriptorProto,
+    of: &FieldOwner,
+    id: &Identity,
+    position: usize,
 ) -> Result<(KindIndex, Option<DefaultValue>), AllocError>
-    requires short { lists_fit (of_message of.owner.message.now) ≡ true }
-    requires ranges { AreRangesOf of.ranges.now of.owner.message.now }
-    ensures kind { IfOk result (λ t. t.0
-        ≡ unwrap_or (field_kind (setting_of reading.old)
-        (shown_at place.entry (of_field field.now)) field.now) Double) }
-    ensures default { IfOk result (λ t. t.1
-        ≡ field_default (setting_of reading.old)
-        (shown_at place.entry (of_field field.now)) field.now) }
+    requires short { lists_fit (of_message of.now.owner.message.now) ≡ true }
+    requires ranges { AreRangesOf of.now.ranges.now of.now.owner.message.now }
+    requires there { position < length (out-DescriptorProto of.now.owner.message.now).field }
+    ensures kind { IfOk result (λ t. t.0 ≡ unwrap_or
+        (field_kind (setting_of reading.old) (field_of of.now id.now position)
+        (record_of of.now position)) Double) }
+    ensures default { IfOk result (λ t. t.1 ≡ field_default (setting_of reading.old)
+        (field_of of.now id.now position) (record_of of.now position)) }
     ensures faults { OnOk result (ReadingTells reading.old reading.new
         (field_record_faults (setting_of reading.old)
-        (message_at of.entry.owner.place of.entry.owner.message.now, of.entry.owner.message.now)
-        (shown_at place.entry (of_field field.now)) field.now)) }
+        (message_at of.now.owner.place of.now.owner.message.now, of.now.owner.message.now)
+        (field_of of.now id.now position) (record_of of.now position))) }
 {
+    check_number(reading, of, id, position)?;
+    let (kind, default) = read_type(reading, of, id, position)?;
     let oneofs = of.owner.message.oneof_decl.as_slice();
-    check_field_number(&mut reading.faults, of.owner, of.ranges, place, field)?;
-    let (kind, default) = type_and_default(reading, place, field)?;
+    let field = &of.owner.message.field.as_slice()[position];
     check_oneof_index(&mut reading.faults, oneofs, field)?;
+    Ok((kind, default))
+}
+
+/// Where the field of a message with a position stands that has an identity.
+fn place_of<'a>(owner: Place, id: &'a Identity, position: usize) -> Place<'a, 'a>
+    requires { position < 2 ^ 32 }
+    ensures { (f : FieldDescriptorProto) → shown_at result (of_field f)
+        ≡ field_shown owner.entry id.now position f }
+{
+    Place {
+        file: owner.file,
+        parent: Some(owner.index),
+        index: position as u32,
+        path: id.path.as_slice(),
+        full_name: id.full_name.as_str(),
+    }
+}
+
+/// Appends to `reading` what the number of a field of a message breaks.
+#[inline(always)]
+fn check_number(
+    reading: &mut Reading,
+    of: &FieldOwner,
+    id: &Identity,
+    position: usize,
+) -> Result<(), AllocError>
+    requires short { lists_fit (of_message of.now.owner.message.now) ≡ true }
+    requires ranges { AreRangesOf of.now.ranges.now of.now.owner.message.now }
+    requires there { position < length (out-DescriptorProto of.now.owner.message.now).field }
+    ensures { OnOk result (ReadingTells reading.old reading.new
+        (field_number_faults (setting_of reading.old).files
+        (message_at of.now.owner.place of.now.owner.message.now) of.now.owner.message.now
+        (field_of of.now id.now position) (record_of of.now position))) }
+{
+    let field = &of.owner.message.field.as_slice()[position];
+    if is_free_number(of.ranges, field) {
+        return Ok(());
+    }
+    tell_number(reading, of, id, position)
+}
+
+/// The kind of the type of a field of a message and its default value, as `check_field` answers
+/// them. What these break is appended to `reading`.
+#[inline(always)]
+fn read_type(
+    reading: &mut Reading,
+    of: &FieldOwner,
+    id: &Identity,
+    position: usize,
+) -> Result<(KindIndex, Option<DefaultValue>), AllocError>
+    requires short { lists_fit (of_message of.now.owner.message.now) ≡ true }
+    requires there { position < length (out-DescriptorProto of.now.owner.message.now).field }
+    ensures kind { IfOk result (λ t. t.0 ≡ unwrap_or
+        (field_kind (setting_of reading.old) (field_of of.now id.now position)
+        (record_of of.now position)) Double) }
+    ensures default { IfOk result (λ t. t.1 ≡ field_default (setting_of reading.old)
+        (field_of of.now id.now position) (record_of of.now position)) }
+    ensures faults { OnOk result (ReadingTells reading.old reading.new
+        (type_faults (setting_of reading.old) (field_of of.now id.now position)
+        (record_of of.now position)
+        ++ field_default_faults (setting_of reading.old) (field_of of.now id.now position)
+        (record_of of.now position))) }
+{
+    let field = &of.owner.message.field.as_slice()[position];
+    match plain_kind(reading, of.owner.place.file, field) {
+        Some(kind) => Ok((kind, None)),
+        None => check_type(reading, of, id, position),
+    }
+}
+
+/// Does what `check_number` does, of any field.
+// Not inlined, as `check_type` is not, since few fields come to it.
+#[inline(never)]
+fn tell_number(
+    reading: &mut Reading,
+    of: &FieldOwner,
+    id: &Identity,
+    position: usize,
+) -> Result<(), AllocError>
+    requires short { lists_fit (of_message of.now.owner.message.now) ≡ true }
+    requires ranges { AreRangesOf of.now.ranges.now of.now.owner.message.now }
+    requires there { position < length (out-DescriptorProto of.now.owner.message.now).field }
+    ensures { OnOk result (ReadingTells reading.old reading.new
+        (field_number_faults (setting_of reading.old).files
+        (message_at of.now.owner.place of.now.owner.message.now) of.now.owner.message.now
+        (field_of of.now id.now position) (record_of of.now position))) }
+{
+    let field = &of.owner.message.field.as_slice()[position];
+    let place = place_of(of.owner.place, id, position);
+    check_field_number(&mut reading.faults, of.owner, of.ranges, place, field)
+}
+
+/// Does what `read_type` does, of any field.
+#[inline(never)]
+fn check_type(
+    reading: &mut Reading,
+    of: &FieldOwner,
+    id: &Identity,
+    position: usize,
+) -> Result<(KindIndex, Option<DefaultValue>), AllocError>
+    requires short { lists_fit (of_message of.now.owner.message.now) ≡ true }
+    requires there { position < length (out-DescriptorProto of.now.owner.message.now).field }
+    ensures kind { IfOk result (λ t. t.0 ≡ unwrap_or
+        (field_kind (setting_of reading.old) (field_of of.now id.now position)
+        (record_of of.now position)) Double) }
+    ensures default { IfOk result (λ t. t.1 ≡ field_default (setting_of reading.old)
+        (field_of of.now id.now position) (record_of of.now position)) }
+    ensures faults { OnOk result (ReadingTells reading.old reading.new
+        (type_faults (setting_of reading.old) (field_of of.now id.now position)
+        (record_of of.now position)
+        ++ field_default_faults (setting_of reading.old) (field_of of.now id.now position)
+        (record_of of.now position))) }
+{
+    let field = &of.owner.message.field.as_slice()[position];
+    let place = place_of(of.owner.place, id, position);
+    let (kind, default) = type_and_default(reading, place, field)?;
     Ok((kind.unwrap_or(KindIndex::Double), default))
 }
 

@@ -81,6 +81,8 @@ impl NewItems {
     }
 
     /// Appends the item of a message.
+    // Inlined, and with room made first, so that an item is made where it stays.
+    #[inline(always)]
     pub(crate) fn push_message(&mut self, message: MessageDescriptorInner) -> Result<(), AllocError>
         ensures ok { OnOk result
             (self.new.messages.items ≡ self.old.messages.items ++ message ∷ []) }
@@ -92,11 +94,13 @@ impl NewItems {
             → NamesBegin self.new.messages.items self.new.enums.items
             self.new.services.items self.new.extensions.items }
     {
-        self.messages.push(message)?;
+        self.messages.reserve(1)?;
+        self.messages.push_reserved(message);
         Ok(())
     }
 
     /// Appends the item of an enum.
+    #[inline(always)]
     pub(crate) fn push_enum(&mut self, enumeration: EnumDescriptorInner) -> Result<(), AllocError>
         ensures ok { OnOk result (self.new.enums.items ≡ self.old.enums.items ++ enumeration ∷ []) }
         ensures messages { self.new.messages ≡ self.old.messages }
@@ -107,11 +111,13 @@ impl NewItems {
             → NamesBegin self.new.messages.items self.new.enums.items
             self.new.services.items self.new.extensions.items }
     {
-        self.enums.push(enumeration)?;
+        self.enums.reserve(1)?;
+        self.enums.push_reserved(enumeration);
         Ok(())
     }
 
     /// Appends the item of a service.
+    #[inline(always)]
     pub(crate) fn push_service(&mut self, service: ServiceDescriptorInner) -> Result<(), AllocError>
         ensures ok { OnOk result
             (self.new.services.items ≡ self.old.services.items ++ service ∷ []) }
@@ -123,7 +129,8 @@ impl NewItems {
             → NamesBegin self.new.messages.items self.new.enums.items
             self.new.services.items self.new.extensions.items }
     {
-        self.services.push(service)?;
+        self.services.reserve(1)?;
+        self.services.push_reserved(service);
         Ok(())
     }
 

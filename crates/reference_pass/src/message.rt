@@ -33,6 +33,8 @@ use std::alloc::{AllocError, Global};
 ///
 /// # Errors
 /// `AllocError` where memory was refused.
+// Inlined, so that the item is made where it stays.
+#[inline(always)]
 pub fn read_message(
     reading: &mut Reading,
     place: Place,
@@ -101,8 +103,10 @@ fn read_fields(
     let mut names = InnerNames::new(alloc, of.owner.place.full_name, fields)?;
     let mut items = Vec::with_capacity(alloc, fields.len())?;
     for position in 0..fields.len() {
-        items.push(read_field(reading, of, &mut names, position)?)?;
-        maps.insert(&mut reading.faults, of.owner, position)?;
+        // Room first, so that an item is made where it stays.
+        items.reserve(1)?;
+        items.push_reserved(read_field(reading, &of, &mut names, position)?);
+        maps.insert(&mut reading.faults, &of.owner, position)?;
     }
     Ok(items)
 }

@@ -1,4 +1,5 @@
-ghost use Rattle.std.specs.Prelude.{◌≡◌, ◌++◌, ◌∷◌, [], None, IfOk, OnOk, slice_get, if◌then◌else◌};
+ghost use Rattle.std.specs.Prelude.{◌≡◌, ◌++◌, ◌∷◌, ℕ, List, [], None, IfOk, OnOk, slice_get};
+ghost use Rattle.std.specs.Prelude.{if◌then◌else◌};
 ghost use Rattle.std.specs.Option.{option_copied};
 ghost use Rattle.plain_data.specs.Lists.{listed};
 ghost use Rattle.name_resolution.specs.References.{reference_fault};
@@ -61,7 +62,24 @@ impl<'f> Reading<'f> {
             then definition_found (resolve (setting_of self.now) place.entry.file
             place.entry.full_name.now filter written.now) else None) }
     {
-        let visible = self.visible(place.file)?;
+        self.find_in(place.file, filter, written)
+    }
+
+    /// The definition that a name means that a file with an index writes, whatever the scope, where
+    /// it is found and the name has a leading dot. Any other name has none here, and a file that
+    /// isn't there finds none.
+    #[inline(always)]
+    pub(crate) fn find_in(
+        &self,
+        file: u32,
+        filter: ResolveNameFilter,
+        written: &str,
+    ) -> Option<&'f Definition>
+        ensures { (scope : List ℕ) → option_copied result ≡ (if has_leading_dot written.now
+            then definition_found (resolve (setting_of self.now) file scope filter written.now)
+            else None) }
+    {
+        let visible = self.visible(file)?;
         self.names.find(visible, written, filter)
     }
 

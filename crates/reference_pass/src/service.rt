@@ -31,6 +31,8 @@ use std::alloc::AllocError;
 ///
 /// # Errors
 /// `AllocError` where memory was refused.
+// Inlined, so that the item is made where it stays.
+#[inline(always)]
 pub fn read_service(
     reading: &mut Reading,
     place: Place,
@@ -67,7 +69,9 @@ fn read_methods(
 {
     let mut items = Vec::with_capacity(reading.faults.alloc, methods.len())?;
     for (position, method) in methods.iter().enumerate() {
-        items.push(read_method(reading, service, position, method)?)?;
+        // Room first, so that an item is made where it stays.
+        items.reserve(1)?;
+        items.push_reserved(read_method(reading, service, position, method)?);
     }
     Ok(items)
 }

@@ -1,4 +1,5 @@
-ghost use Rattle.std.specs.Prelude.{◌≡◌, ◌++◌, [], ◌∷◌, not, is_some, IfOk, OnOk};
+ghost use Rattle.std.specs.Prelude.{◌≡◌, ◌++◌, [], ◌∷◌, not, is_some, IfOk, IfSome, OnOk};
+ghost use Rattle.record_walk.specs.Shown.{Shown};
 ghost use Rattle.std.specs.Option.{option_and_then, option_map_or};
 ghost use Rattle.proto_types.specs.declared.tag.field.TheConstants.{TYPE_NAME};
 ghost use Rattle.plain_data.specs.Lists.{listed, only_if};
@@ -14,6 +15,7 @@ ghost use Rattle.field_rules.specs.DefaultEnum.{default_enum_in};
 ghost use Rattle.field_rules.specs.Defaults.{default_faults};
 ghost use Rattle.reference_pass.specs.Defaults.{default_by, enum_found, field_default};
 ghost use Rattle.reference_pass.specs.Defaults.{field_default_faults, no_default_enum};
+ghost use Rattle.reference_pass.specs.Plain.{IsPlain};
 ghost use Rattle.reference_pass.specs.Types.{field_kind, type_faults, resolve_type};
 ghost use Rattle.reference_pass.specs.Reading.{ReadingTells, setting_of};
 ghost use Rattle.record_walk.specs.Place.{shown_at};
@@ -50,16 +52,36 @@ pub(crate) fn type_and_default(
         ++ field_default_faults (setting_of reading.old)
         (shown_at place.entry (of_field field.now)) field.now)) }
 {
-    let written = field.type_name();
-    if written.is_empty() {
+    if let Some(kind) = plain_kind(reading, place.file, field) {
+        return Ok((Some(kind), None));
+    }
+    if field.type_name().is_empty() {
         return written_type(&mut reading.faults, place, field);
     }
-    if field.default_value.is_none()
-        && let Some(def) = reading.find(place, ResolveNameFilter::FieldType, written)
-    {
-        return Ok((named_kind(field.field_type(), def.kind), None));
-    }
     named_type(reading, place, field)
+}
+
+/// The kind of a field of a file with an index, where it is given no default value, and its type is
+/// written by a number or found by its full name: nothing of its type breaks a rule then. Any other
+/// field has none here.
+#[inline(always)]
+pub(crate) fn plain_kind(
+    reading: &Reading,
+    file: u32,
+    field: &FieldDescriptorProto,
+) -> Option<KindIndex>
+    ensures { IfSome result (λ kind. (d : Shown) → d.file ≡ file
+        → IsPlain (setting_of reading.now) d field.now kind) }
+{
+    if field.default_value.is_some() {
+        return None;
+    }
+    let written = field.type_name();
+    if written.is_empty() {
+        return simple_kind(field.field_type());
+    }
+    let def = reading.find_in(file, ResolveNameFilter::FieldType, written)?;
+    named_kind(field.field_type(), def.kind)
 }
 
 /// The kind of a type that a field names by its number, and the default value.

@@ -29,11 +29,13 @@ loop-position-preserved c =
     let below = subst (λ (xs : List EnumValueDescriptorProto). i < length xs) c.as_slice-values.ensures c.loop-position-test.true in
     let is = subst (λ (xs : List EnumValueDescriptorProto). v ≡ get_or xs i v) c.as_slice-values.ensures c.index-values-position.is in
     let Begins : EnumValueDescriptorInner → Type 0 = λ g. BeginsAtBoundary g.id in
+    let item : EnumValueDescriptorInner = record { id = c.in_ok-id.id; number = to_z w32 (of_z w32 c.number.result) } in
+    let pushed = c.push_reserved.ensures.items ∙ ap (λ items. items ++ item ∷ []) c.reserve.ensures.items in
     record {
-      items = c.in_ok-push.ensures.items ∙ (λ j. c.loop-position.invariant.items j ++ record { id = id j; number = number j } ∷ [])
+      items = pushed ∙ (λ j. c.loop-position.invariant.items j ++ record { id = id j; number = number j } ∷ [])
           ∙ sym (each-next (λ n w. value_item (part_beside d VALUE n (of_value w)) (number_of w.number)) c.args.enumeration.now.value i v below is);
-      begin = subst (All Begins) (sym c.in_ok-push.ensures.items)
-          (All-push Begins c.loop-position.items.items (record { id = c.in_ok-id.id; number = to_z w32 (of_z w32 c.number.result) }) c.loop-position.invariant.begin c.in_ok-id.ensures.begins);
+      begin = subst (All Begins) (sym pushed)
+          (All-push Begins c.loop-position.items.items item c.loop-position.invariant.begin c.in_ok-id.ensures.begins);
     }
 
 pub returns-clause-items : goal.returns-clause-items

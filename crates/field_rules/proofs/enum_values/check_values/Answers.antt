@@ -11,9 +11,8 @@ use Rattle.plain_data.specs.Lists.{listed}
 use Rattle.proto_types.specs.declared.file.FileDescriptorProto.{FileDescriptorProto}
 use Rattle.pool_faults.specs.declared.fault.DescriptorErrorKind.{DescriptorErrorKind}
 use Rattle.pool_faults.specs.declared.fault.DescriptorErrorKind.TheVariants.{DuplicateEnumNumber}
-use Rattle.record_walk.specs.declared.faults.Faults.{Faults}
 use Rattle.record_walk.specs.Place.{enum_at}
-use Rattle.record_walk.specs.Faults.{Tells, named_files}
+use Rattle.record_walk.specs.Faults.{named_files}
 use Rattle.field_rules.proofs.Tells.{tells-next}
 use Rattle.record_walk.proofs.Tells.{same-files, tells-as, tells-two}
 use Rattle.field_rules.specs.EnumValues.{number_label, value_faults}

@@ -40,10 +40,11 @@ loop-position-preserved c =
     let own = c.in_ok-read_field.ensures.faults in
     let item = c.in_ok-read_field.ensures.item ∙ ap (λ t. field_item t m.oneof_decl (field_at here i f) f) (same-setting so_far) in
     let Begins : FieldDescriptorInner → Type 0 = λ g. BeginsAtBoundary g.id in
+    let pushed = c.push_reserved.ensures.items ∙ ap (λ items. items ++ c.in_ok-read_field.field-0 ∷ []) c.reserve.ensures.items in
     record {
-      items = c.in_ok-push.ensures.items ∙ (λ j. c.loop-position.invariant.items j ++ item j ∷ [])
+      items = pushed ∙ (λ j. c.loop-position.invariant.items j ++ item j ∷ [])
           ∙ sym (each-next (λ n g. field_item s m.oneof_decl (field_at here n g) g) m.field i f below is);
-      begin = subst (All Begins) (sym c.in_ok-push.ensures.items)
+      begin = subst (All Begins) (sym pushed)
           (All-push Begins c.loop-position.items.items c.in_ok-read_field.field-0 c.loop-position.invariant.begin c.in_ok-read_field.ensures.begins);
       maps = c.in_ok-insert.ensures.maps;
       names = c.in_ok-read_field.ensures.names;

@@ -26,10 +26,11 @@ loop-position-preserved c =
     let so_far = c.loop-position.invariant.faults in
     let item = c.in_ok-read_method.ensures.item ∙ ap (λ t. method_item t (method_at here i m) m) (same-setting so_far) in
     let Begins : MethodDescriptorInner → Type 0 = λ g. BeginsAtBoundary g.id in
+    let pushed = c.push_reserved.ensures.items ∙ ap (λ items. items ++ c.in_ok-read_method.field-0 ∷ []) c.reserve.ensures.items in
     record {
-      items = c.in_ok-push.ensures.items ∙ (λ j. c.loop-position.invariant.items j ++ item j ∷ [])
+      items = pushed ∙ (λ j. c.loop-position.invariant.items j ++ item j ∷ [])
           ∙ sym (each-next (λ n p. method_item s (method_at here n p) p) c.args.methods.now i m c.loop-position-test.true c.index-methods-position.is);
-      begin = subst (All Begins) (sym c.in_ok-push.ensures.items)
+      begin = subst (All Begins) (sym pushed)
           (All-push Begins c.loop-position.items.items c.in_ok-read_method.field-0 c.loop-position.invariant.begin c.in_ok-read_method.ensures.begins);
       faults = reads-next (λ t n p. method_faults t (method_at here n p) p) c.args.methods.now i m c.loop-position-test.true c.index-methods-position.is so_far
           refl c.in_ok-read_method.ensures.faults;

@@ -22,11 +22,11 @@ by-name : (s : Setting) (d : Shown) (f : FieldDescriptorProto) (name : List ℕ)
 by-name s d f [] named = absurd (cc)
 by-name s d f (x ∷ xs) named = refl
 
-pub returns-2-clause-default : goal.returns-2-clause-default
-returns-2-clause-default c =
+pub returns-clause-default : goal.returns-clause-default
+returns-clause-default c =
     let s = setting_of c.args.reading.now in
     let f = c.args.field.now in
     let d : Shown = shown_at c.args.place (of_field f) in
-    let named = sym (c.is_empty.ensures ∙ ap (λ (name : List ℕ). length name == 0) c.type_name-written.ensures) ∙ c.if-is_empty.false in
+    let named = sym (c.is_empty.ensures ∙ ap (λ (name : List ℕ). length name == 0) c.type_name.ensures) ∙ c.if-is_empty.false in
     let is : _ ≡ field_default s d f = by-name s d f (text_of f.type_name) named in
     IfOk-weaker c.named_type.result _ _ (λ _ read. read ∙ is) c.named_type.ensures.default

@@ -24,12 +24,12 @@ told-alike fault first held same = ap (λ o. listed (option_map fault o)) same
 pub check_number-requires-clause-first_short : goal.check_number-requires-clause-first_short
 check_number-requires-clause-first_short c =
     subst (λ o. IfSome o (λ first. first < 2 ^ 31)) (sym c.in_ok-first.ensures.earlier)
-    (short-numbers c.args.self.now (out-DescriptorProto c.args.owner.message.now).field c.args.position c.requires.short c.requires.there c.requires.maps _)
+    (short-numbers c.args.self.now (out-DescriptorProto c.args.owner.now.message.now).field c.args.position c.requires.short c.requires.there c.requires.maps _)
 
 pub enter_json_name-requires-clause-holders_short : goal.enter_json_name-requires-clause-holders_short
 enter_json_name-requires-clause-holders_short c =
     let i = c.args.position in
-    let fields = (out-DescriptorProto c.args.owner.message.now).field in
+    let fields = (out-DescriptorProto c.args.owner.now.message.now).field in
     let are = subst (λ o. MatchOption o (JsonNamesDiffer fields) (λ earlier. earlier ≡ by_json_name (take i fields))) c.in-Some.is c.requires.maps.earlier in
     λ name. short-json_names c.in-Some.earlier fields i c.requires.short c.requires.there are name
 
@@ -37,7 +37,7 @@ enter_json_name-requires-clause-holders_short c =
 pub returns-in-Some-clause-maps : goal.returns-in-Some-clause-maps
 returns-in-Some-clause-maps c =
     let number = c.number-number.result in
-    let fields = (out-DescriptorProto c.args.owner.message.now).field in
+    let fields = (out-DescriptorProto c.args.owner.now.message.now).field in
     let f = c.index-as_slice-position.result in
     let i = c.args.position in
     let is = subst (λ (fs : List FieldDescriptorProto). f ≡ get_or fs i f) c.as_slice.ensures c.index-as_slice-position.is in
@@ -54,10 +54,10 @@ returns-in-Some-clause-maps c =
 pub returns-in-Some-clause-faults : goal.returns-in-Some-clause-faults
 returns-in-Some-clause-faults c =
     let files = named_files c.args.faults.now in
-    let file = c.args.owner.place.file in
-    let path = c.args.owner.place.path.now in
+    let file = c.args.owner.now.place.file in
+    let path = c.args.owner.now.place.path.now in
     let i = c.args.position in
-    let fields = (out-DescriptorProto c.args.owner.message.now).field in
+    let fields = (out-DescriptorProto c.args.owner.now.message.now).field in
     let earlier = take i fields in
     let f = c.index-as_slice-position.result in
     let number = c.number-number.result in
@@ -81,7 +81,7 @@ returns-in-Some-clause-faults c =
 pub returns-in-None-clause-maps : goal.returns-in-None-clause-maps
 returns-in-None-clause-maps c =
     let number = c.number-number.result in
-    let fields = (out-DescriptorProto c.args.owner.message.now).field in
+    let fields = (out-DescriptorProto c.args.owner.now.message.now).field in
     let f = c.index-as_slice-position.result in
     let i = c.args.position in
     let is = subst (λ (fs : List FieldDescriptorProto). f ≡ get_or fs i f) c.as_slice.ensures c.index-as_slice-position.is in
@@ -97,10 +97,10 @@ returns-in-None-clause-maps c =
 pub returns-in-None-clause-faults : goal.returns-in-None-clause-faults
 returns-in-None-clause-faults c =
     let files = named_files c.args.faults.now in
-    let file = c.args.owner.place.file in
-    let path = c.args.owner.place.path.now in
+    let file = c.args.owner.now.place.file in
+    let path = c.args.owner.now.place.path.now in
     let i = c.args.position in
-    let fields = (out-DescriptorProto c.args.owner.message.now).field in
+    let fields = (out-DescriptorProto c.args.owner.now.message.now).field in
     let earlier = take i fields in
     let f = c.index-as_slice-position.result in
     let number = c.number-number.result in

@@ -12,6 +12,11 @@ returns-clause-there c =
     let m : ℤ = to_z w32 (of_z w32 c.args.number) in
     there m c.args.from c.args.self.now c.first_in.result (c.first_in.ensures ∙ ap (first_from (holds m) c.args.from) (c.as_slice-ranges.ensures.value ∙ c.self.view_is))
 
+pub returns-then-self-eq0-clause-there : goal.returns-then-self-eq0-clause-there
+returns-then-self-eq0-clause-there c =
+    let m : ℤ = to_z w32 (of_z w32 c.args.number) in
+    there m c.args.from c.args.self.now c.first_listed.result (c.first_listed.ensures ∙ ap (first_from (holds m) c.args.from) (c.as_slice-ranges.ensures.value ∙ c.self.view_is))
+
 -- past the end
 pub returns-then-from-ranges-clause-first : goal.returns-then-from-ranges-clause-first
 returns-then-from-ranges-clause-first c =

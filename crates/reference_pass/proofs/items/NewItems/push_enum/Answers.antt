@@ -1,4 +1,4 @@
-use Rattle.std.proofs.Common.{subst, sym}
+use Rattle.std.proofs.Common.{◌++◌, ◌∷◌, [], ap, subst, sym, ◌∙◌}
 use Rattle.std.proofs.lemmas.List.Elements.{All-push}
 use Rattle.std.specs.List.{All}
 use Rattle.field_rules.specs.NamesBegin.{EnumNamesBegin}
@@ -8,7 +8,7 @@ use Rattle.reference_pass.proofs.items.NewItems.push_enum.Goals as goal
 pub returns-clause-names : goal.returns-clause-names
 returns-clause-names c = λ old own. record {
   messages = old.messages;
-  enums = subst (All EnumNamesBegin) (sym c.in_ok-push.ensures.items) (All-push EnumNamesBegin c.args.self.now.enums.items c.args.enumeration old.enums own);
+  enums = subst (All EnumNamesBegin) (sym (c.push_reserved.ensures.items ∙ ap (λ items. items ++ c.args.enumeration ∷ []) c.reserve.ensures.items)) (All-push EnumNamesBegin c.args.self.now.enums.items c.args.enumeration old.enums own);
   services = old.services;
   extensions = old.extensions;
 }

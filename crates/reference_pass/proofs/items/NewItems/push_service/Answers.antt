@@ -1,4 +1,4 @@
-use Rattle.std.proofs.Common.{subst, sym}
+use Rattle.std.proofs.Common.{◌++◌, ◌∷◌, [], ap, subst, sym, ◌∙◌}
 use Rattle.std.proofs.lemmas.List.Elements.{All-push}
 use Rattle.std.specs.List.{All}
 use Rattle.reference_pass.specs.NamesBegin.{ServiceNamesBegin}
@@ -9,6 +9,6 @@ pub returns-clause-names : goal.returns-clause-names
 returns-clause-names c = λ old own. record {
   messages = old.messages;
   enums = old.enums;
-  services = subst (All ServiceNamesBegin) (sym c.in_ok-push.ensures.items) (All-push ServiceNamesBegin c.args.self.now.services.items c.args.service old.services own);
+  services = subst (All ServiceNamesBegin) (sym (c.push_reserved.ensures.items ∙ ap (λ items. items ++ c.args.service ∷ []) c.reserve.ensures.items)) (All-push ServiceNamesBegin c.args.self.now.services.items c.args.service old.services own);
   extensions = old.extensions;
 }
