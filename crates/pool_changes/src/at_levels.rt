@@ -170,13 +170,13 @@ impl<'a> Telling<'a> {
 
     /// Appends what changes at json and at source of a field or an extension that the reader's
     /// message has too.
-    fn tell_kept_entry(self, told: &mut BehindWire, pair: KeptPart<'_>) -> Result<(), AllocError>
+    fn tell_kept_entry(self, told: &mut BehindWire, pair: &KeptPart<'_>) -> Result<(), AllocError>
         ensures json { OnOk result (told.new.json ≡ told.old.json ++ part_json
-            (versions self.entry) pair.entry.messages.found.now (part pair.entry.before)
-            (part pair.entry.after)) }
+            (versions self.entry) pair.now.messages.found.now (part pair.now.before)
+            (part pair.now.after)) }
         ensures source { OnOk result (told.new.source ≡ told.old.source ++ part_source
-            (versions self.entry) pair.entry.messages.before.now pair.entry.messages.after.now
-            pair.entry.messages.found.now (part pair.entry.before) (part pair.entry.after)) }
+            (versions self.entry) pair.now.messages.before.now pair.now.messages.after.now
+            pair.now.messages.found.now (part pair.now.before) (part pair.now.after)) }
     {
         if self.is_untold(pair) {
             return Ok(());
@@ -206,7 +206,7 @@ impl<'a> Telling<'a> {
                     before: field,
                     after: kept,
                 };
-                self.tell_kept_entry(told, kept)
+                self.tell_kept_entry(told, &kept)
             }
             None => self.tell_field_removed(&mut told.json, pair, field),
         }

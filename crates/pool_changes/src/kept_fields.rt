@@ -46,9 +46,9 @@ pub(crate) struct KeptPart<'a> {
 impl Telling<'_> {
     /// Whether one of a kind with its number is among the changes of the message at wire, and is
     /// told.
-    fn is_told_at_wire(self, pair: KeptPart<'_>, kind: WireChangeKind) -> bool
-        ensures { result ≡ tells self.entry.direction pair.entry.messages.found.now
-            pair.entry.before.entry.number kind }
+    fn is_told_at_wire(self, pair: &KeptPart<'_>, kind: WireChangeKind) -> bool
+        ensures { result ≡ tells self.entry.direction pair.now.messages.found.now
+            pair.now.before.entry.number kind }
     {
         let found = pair.messages.found;
         tells(self.direction, found, pair.before.entry.number, kind)
@@ -152,18 +152,18 @@ impl Telling<'_> {
     }
 
     /// Whether JSON has a field in a form that the reader's reads.
-    fn keeps_form(self, pair: KeptPart<'_>) -> bool
-        ensures { result ≡ spec.keeps_form (versions self.entry) (part pair.entry.before)
-            (part pair.entry.after) }
+    fn keeps_form(self, pair: &KeptPart<'_>) -> bool
+        ensures { result ≡ spec.keeps_form (versions self.entry) (part pair.now.before)
+            (part pair.now.after) }
     {
         let (written, read) = (pair.before.entry.kind, pair.after.entry.kind);
         self.keeps_values(written, read) || self.has_messages_alike(written, read)
     }
 
     /// Appends what changes of its form in JSON, if that is not told at wire.
-    fn tell_form(self, told: &mut Items<ToldFault>, pair: KeptPart<'_>) -> Result<(), AllocError>
+    fn tell_form(self, told: &mut Items<ToldFault>, pair: &KeptPart<'_>) -> Result<(), AllocError>
         ensures { OnOk result (told.new ≡ told.old ++ spec.form_changes (versions self.entry)
-            pair.entry.messages.found.now (part pair.entry.before) (part pair.entry.after)) }
+            pair.now.messages.found.now (part pair.now.before) (part pair.now.after)) }
     {
         if self.is_told_at_wire(pair, WireChangeKind::Kind) || self.keeps_form(pair) {
             return Ok(());
@@ -177,11 +177,11 @@ impl Telling<'_> {
     fn tell_repeated(
         self,
         told: &mut Items<ToldFault>,
-        pair: KeptPart<'_>,
+        pair: &KeptPart<'_>,
     ) -> Result<(), AllocError>
         ensures { OnOk result (told.new ≡ told.old ++ spec.repeated_changes
-            (versions self.entry) pair.entry.messages.found.now (part pair.entry.before)
-            (part pair.entry.after)) }
+            (versions self.entry) pair.now.messages.found.now (part pair.now.before)
+            (part pair.now.after)) }
     {
         if self.is_told_at_wire(pair, WireChangeKind::Cardinality) {
             return Ok(());
@@ -196,10 +196,10 @@ impl Telling<'_> {
     pub(crate) fn tell_part_json(
         self,
         told: &mut Items<ToldFault>,
-        pair: KeptPart<'_>,
+        pair: &KeptPart<'_>,
     ) -> Result<(), AllocError>
         ensures { OnOk result (told.new ≡ told.old ++ spec.part_json (versions self.entry)
-            pair.entry.messages.found.now (part pair.entry.before) (part pair.entry.after)) }
+            pair.now.messages.found.now (part pair.now.before) (part pair.now.after)) }
     {
         let (before, after) = (pair.before.json(), pair.after.json());
         self.tell_differing(told, ElementChange::FieldJsonName.between(before, after))?;
@@ -208,9 +208,9 @@ impl Telling<'_> {
     }
 
     /// Appends what changes of its name, if the JSON name is the same.
-    fn tell_name(self, told: &mut Items<ToldFault>, pair: KeptPart<'_>) -> Result<(), AllocError>
+    fn tell_name(self, told: &mut Items<ToldFault>, pair: &KeptPart<'_>) -> Result<(), AllocError>
         ensures { OnOk result (told.new ≡ told.old ++ spec.name_changes (versions self.entry)
-            (part pair.entry.before) (part pair.entry.after)) }
+            (part pair.now.before) (part pair.now.after)) }
     {
         if pair.before.json_name == pair.after.json_name {
             let (before, after) = (pair.before.name(), pair.after.name());
@@ -220,9 +220,9 @@ impl Telling<'_> {
     }
 
     /// Appends what changes of its type, if that is not told at wire or at json.
-    fn tell_type(self, told: &mut Items<ToldFault>, pair: KeptPart<'_>) -> Result<(), AllocError>
+    fn tell_type(self, told: &mut Items<ToldFault>, pair: &KeptPart<'_>) -> Result<(), AllocError>
         ensures { OnOk result (told.new ≡ told.old ++ spec.type_changes (versions self.entry)
-            pair.entry.messages.found.now (part pair.entry.before) (part pair.entry.after)) }
+            pair.now.messages.found.now (part pair.now.before) (part pair.now.after)) }
     {
         if self.is_told_at_wire(pair, WireChangeKind::Kind) || !self.keeps_form(pair) {
             return Ok(());
@@ -236,11 +236,11 @@ impl Telling<'_> {
     fn tell_presence(
         self,
         told: &mut Items<ToldFault>,
-        pair: KeptPart<'_>,
+        pair: &KeptPart<'_>,
     ) -> Result<(), AllocError>
         ensures { OnOk result (told.new ≡ told.old ++ spec.presence_changes
-            (versions self.entry) pair.entry.messages.found.now (part pair.entry.before)
-            (part pair.entry.after)) }
+            (versions self.entry) pair.now.messages.found.now (part pair.now.before)
+            (part pair.now.after)) }
     {
         if self.is_told_at_wire(pair, WireChangeKind::Required)
             || one_repeats(pair.before, pair.after)
@@ -252,10 +252,10 @@ impl Telling<'_> {
     }
 
     /// Appends which oneof it is in, if that is not told at wire.
-    fn tell_moved(self, told: &mut Items<ToldFault>, pair: KeptPart<'_>) -> Result<(), AllocError>
+    fn tell_moved(self, told: &mut Items<ToldFault>, pair: &KeptPart<'_>) -> Result<(), AllocError>
         ensures { OnOk result (told.new ≡ told.old ++ spec.oneof_moves (versions self.entry)
-            pair.entry.messages.before.now pair.entry.messages.after.now
-            pair.entry.messages.found.now (part pair.entry.before) (part pair.entry.after)) }
+            pair.now.messages.before.now pair.now.messages.after.now
+            pair.now.messages.found.now (part pair.now.before) (part pair.now.after)) }
     {
         if self.is_told_at_wire(pair, WireChangeKind::Oneof) {
             return Ok(());
@@ -266,9 +266,13 @@ impl Telling<'_> {
     }
 
     /// Appends what changes of the default value that its record gives.
-    fn tell_default(self, told: &mut Items<ToldFault>, pair: KeptPart<'_>) -> Result<(), AllocError>
+    fn tell_default(
+        self,
+        told: &mut Items<ToldFault>,
+        pair: &KeptPart<'_>,
+    ) -> Result<(), AllocError>
         ensures { OnOk result (told.new ≡ told.old ++ spec.default_changes
-            (versions self.entry) (part pair.entry.before) (part pair.entry.after)) }
+            (versions self.entry) (part pair.now.before) (part pair.now.after)) }
     {
         let before = pair.before.default(self.writer());
         let after = pair.after.default(self.reader());
@@ -282,11 +286,11 @@ impl Telling<'_> {
     pub(crate) fn tell_part_source(
         self,
         told: &mut Items<ToldFault>,
-        pair: KeptPart<'_>,
+        pair: &KeptPart<'_>,
     ) -> Result<(), AllocError>
         ensures { OnOk result (told.new ≡ told.old ++ spec.part_source (versions self.entry)
-            pair.entry.messages.before.now pair.entry.messages.after.now
-            pair.entry.messages.found.now (part pair.entry.before) (part pair.entry.after)) }
+            pair.now.messages.before.now pair.now.messages.after.now
+            pair.now.messages.found.now (part pair.now.before) (part pair.now.after)) }
     {
         self.tell_name(told, pair)?;
         self.tell_type(told, pair)?;

@@ -82,7 +82,7 @@ pub(crate) fn tells(
 fn is_value_like(value: &EnumValueDescriptorInner, other: &EnumValueDescriptorInner) -> bool
     ensures { result ≡ spec.is_value_like value.now other.now }
 {
-    other.number == value.number && other.id.full_name() == value.id.full_name()
+    other.number == value.number && other.id.full_name == value.id.full_name
 }
 
 /// Whether the value at a position has the full name and the number of another.

@@ -55,30 +55,30 @@ fn was_required(entry: Option<Entry>) -> bool
 
 impl Compared<'_> {
     /// The old entry with a number.
-    pub(crate) fn old_entry(self, number: u32) -> Option<Entry>
-        ensures { result ≡ old_entry (compared self.entry) number }
+    pub(crate) fn old_entry(&self, number: u32) -> Option<Entry>
+        ensures { result ≡ old_entry (compared self.now) number }
     {
         self.old.entry_numbered(self.before, number)
     }
 
     /// The new entry with a number.
-    pub(crate) fn new_entry(self, number: u32) -> Option<Entry>
-        ensures { result ≡ new_entry (compared self.entry) number }
+    pub(crate) fn new_entry(&self, number: u32) -> Option<Entry>
+        ensures { result ≡ new_entry (compared self.now) number }
     {
         self.new.entry_numbered(self.after, number)
     }
 
     /// Appends what a new entry changes of the old one with its number.
     fn tell_kept(
-        self,
+        &self,
         changes: &mut Vec<WireChange>,
         entry: &Entry,
         kept: &Entry,
     ) -> Result<(), AllocError>
         ensures { OnOk result (changes.new.items ≡ changes.old.items
-            ++ kept_changes (compared self.entry) entry.now (Some kept.now)) }
+            ++ kept_changes (compared self.now) entry.now (Some kept.now)) }
     {
-        let kind = keeps_kind(self.old, entry, self.new, kept);
+        let kind = keeps_kind(&self.old, entry, &self.new, kept);
         push_unless(changes, kind, entry.number, WireChangeKind::Kind)?;
         let cardinality = keeps_cardinality(entry.kind, entry.cardinality, kept.cardinality);
         push_unless(
@@ -90,9 +90,9 @@ impl Compared<'_> {
     }
 
     /// Appends that the number of a removed entry is free for another one.
-    fn tell_removed(self, changes: &mut Vec<WireChange>, number: u32) -> Result<(), AllocError>
+    fn tell_removed(&self, changes: &mut Vec<WireChange>, number: u32) -> Result<(), AllocError>
         ensures { OnOk result (changes.new.items ≡ changes.old.items
-            ++ unless (is_kept_free (parts self.entry.new) self.entry.after.now number) number
+            ++ unless (is_kept_free (parts self.now.new) self.now.after.now number) number
             change.FreeNumber) }
     {
         let kept_free = self.new.is_kept_free(self.after, number);
@@ -100,9 +100,9 @@ impl Compared<'_> {
     }
 
     /// Appends what the new entry with its number changes of an old one.
-    fn tell_entry(self, changes: &mut Vec<WireChange>, entry: &Entry) -> Result<(), AllocError>
+    fn tell_entry(&self, changes: &mut Vec<WireChange>, entry: &Entry) -> Result<(), AllocError>
         ensures { OnOk result (changes.new.items ≡ changes.old.items
-            ++ entry_changes (compared self.entry) entry.now) }
+            ++ entry_changes (compared self.now) entry.now) }
     {
         match self.new_entry(entry.number) {
             Some(kept) => self.tell_kept(changes, entry, &kept),
@@ -111,9 +111,9 @@ impl Compared<'_> {
     }
 
     /// Appends that a new entry is required, where the old one was not.
-    fn tell_required(self, changes: &mut Vec<WireChange>, entry: &Entry) -> Result<(), AllocError>
+    fn tell_required(&self, changes: &mut Vec<WireChange>, entry: &Entry) -> Result<(), AllocError>
         ensures { OnOk result (changes.new.items ≡ changes.old.items
-            ++ required_changes (compared self.entry) entry.now) }
+            ++ required_changes (compared self.now) entry.now) }
     {
         let passes = entry.cardinality != Cardinality::Required
             || was_required(self.old_entry(entry.number));
@@ -121,10 +121,10 @@ impl Compared<'_> {
     }
 
     /// Appends what the new entries with their numbers change of the old fields.
-    fn tell_fields(self, changes: &mut Vec<WireChange>) -> Result<(), AllocError>
+    fn tell_fields(&self, changes: &mut Vec<WireChange>) -> Result<(), AllocError>
         ensures { OnOk result (changes.new.items ≡ changes.old.items
-            ++ flat_map (λ f. entry_changes (compared self.entry) (field_entry f))
-            self.entry.before.now.fields) }
+            ++ flat_map (λ f. entry_changes (compared self.now) (field_entry f))
+            self.now.before.now.fields) }
     {
         let fields = self.before.fields.as_slice();
         for field in fields {
@@ -135,12 +135,12 @@ impl Compared<'_> {
 
     /// Appends what the new entry with its number changes of an old extension, if there is one.
     fn tell_extension(
-        self,
+        &self,
         changes: &mut Vec<WireChange>,
         extension: Option<Entry>,
     ) -> Result<(), AllocError>
         ensures { OnOk result (changes.new.items ≡ changes.old.items
-            ++ extension_changes (compared self.entry) extension) }
+            ++ extension_changes (compared self.now) extension) }
     {
         match extension {
             Some(entry) => self.tell_entry(changes, &entry),
@@ -149,11 +149,11 @@ impl Compared<'_> {
     }
 
     /// Appends what the new entries with their numbers change of the old extensions.
-    fn tell_extensions(self, changes: &mut Vec<WireChange>) -> Result<(), AllocError>
+    fn tell_extensions(&self, changes: &mut Vec<WireChange>) -> Result<(), AllocError>
         ensures { OnOk result (changes.new.items ≡ changes.old.items
-            ++ flat_map (λ i. extension_changes (compared self.entry)
-            (extension_in (parts self.entry.old) self.entry.before.now i))
-            self.entry.before.now.extensions) }
+            ++ flat_map (λ i. extension_changes (compared self.now)
+            (extension_in (parts self.now.old) self.now.before.now i))
+            self.now.before.now.extensions) }
     {
         let extensions = self.before.extensions.as_slice();
         for index in extensions {
@@ -163,9 +163,9 @@ impl Compared<'_> {
     }
 
     /// Appends which old entries are in one new oneof now, and were not.
-    fn tell_oneofs(self, changes: &mut Vec<WireChange>) -> Result<(), AllocError>
+    fn tell_oneofs(&self, changes: &mut Vec<WireChange>) -> Result<(), AllocError>
         ensures { OnOk result (changes.new.items ≡ changes.old.items
-            ++ flat_map (oneof_changes (compared self.entry)) self.entry.after.now.oneofs) }
+            ++ flat_map (oneof_changes (compared self.now)) self.now.after.now.oneofs) }
     {
         let oneofs = self.after.oneofs.as_slice();
         for oneof in oneofs {
@@ -175,10 +175,10 @@ impl Compared<'_> {
     }
 
     /// Appends which new fields are required, and were not.
-    fn tell_required_fields(self, changes: &mut Vec<WireChange>) -> Result<(), AllocError>
+    fn tell_required_fields(&self, changes: &mut Vec<WireChange>) -> Result<(), AllocError>
         ensures { OnOk result (changes.new.items ≡ changes.old.items
-            ++ flat_map (λ g. required_changes (compared self.entry) (field_entry g))
-            self.entry.after.now.fields) }
+            ++ flat_map (λ g. required_changes (compared self.now) (field_entry g))
+            self.now.after.now.fields) }
     {
         let fields = self.after.fields.as_slice();
         for field in fields {
@@ -189,12 +189,12 @@ impl Compared<'_> {
 
     /// Appends that a new extension is required, where the old one was not, if there is one.
     fn tell_required_extension(
-        self,
+        &self,
         changes: &mut Vec<WireChange>,
         extension: Option<Entry>,
     ) -> Result<(), AllocError>
         ensures { OnOk result (changes.new.items ≡ changes.old.items
-            ++ required_extension_changes (compared self.entry) extension) }
+            ++ required_extension_changes (compared self.now) extension) }
     {
         match extension {
             Some(entry) => self.tell_required(changes, &entry),
@@ -203,11 +203,11 @@ impl Compared<'_> {
     }
 
     /// Appends which new extensions are required, and were not.
-    fn tell_required_extensions(self, changes: &mut Vec<WireChange>) -> Result<(), AllocError>
+    fn tell_required_extensions(&self, changes: &mut Vec<WireChange>) -> Result<(), AllocError>
         ensures { OnOk result (changes.new.items ≡ changes.old.items
-            ++ flat_map (λ i. required_extension_changes (compared self.entry)
-            (extension_in (parts self.entry.new) self.entry.after.now i))
-            self.entry.after.now.extensions) }
+            ++ flat_map (λ i. required_extension_changes (compared self.now)
+            (extension_in (parts self.now.new) self.now.after.now i))
+            self.now.after.now.extensions) }
     {
         let extensions = self.after.extensions.as_slice();
         for index in extensions {

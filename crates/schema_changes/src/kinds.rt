@@ -14,8 +14,8 @@ use pool_types::{Cardinality, EnumValueDescriptorInner, KindIndex};
 
 /// Whether a number of 32 bits is one of a kind that is encoded as int32 is.
 #[tactic(auto, unfolding(crate::specs::Kinds::holds))]
-pub(crate) fn holds(items: Parts<'_>, kind: KindIndex, number: i32) -> bool
-    ensures { result ≡ holds (parts items.entry) kind number }
+pub(crate) fn holds(items: &Parts<'_>, kind: KindIndex, number: i32) -> bool
+    ensures { result ≡ holds (parts items.now) kind number }
 {
     match kind {
         KindIndex::Int32 | KindIndex::Int64 => true,
@@ -28,8 +28,8 @@ pub(crate) fn holds(items: Parts<'_>, kind: KindIndex, number: i32) -> bool
 
 /// Whether each number of 32 bits is one of a kind that is encoded as int32 is.
 #[tactic(auto, unfolding(crate::specs::Kinds::holds_all))]
-fn holds_all(items: Parts<'_>, kind: KindIndex) -> bool
-    ensures { result ≡ holds_all (parts items.entry) kind }
+fn holds_all(items: &Parts<'_>, kind: KindIndex) -> bool
+    ensures { result ≡ holds_all (parts items.now) kind }
 {
     match kind {
         KindIndex::Int32 | KindIndex::Int64 => true,
@@ -66,16 +66,16 @@ fn has_each(values: &[EnumValueDescriptorInner], others: &[EnumValueDescriptorIn
 }
 
 /// Whether the numbers of values are numbers of an enum.
-fn enum_holds_each(items: Parts<'_>, index: u32, values: &[EnumValueDescriptorInner]) -> bool
+fn enum_holds_each(items: &Parts<'_>, index: u32, values: &[EnumValueDescriptorInner]) -> bool
     ensures { result
-        ≡ list_all (λ v. holds (parts items.entry) (kind.Enum index) v.number) values.now }
+        ≡ list_all (λ v. holds (parts items.now) (kind.Enum index) v.number) values.now }
 {
     items.is_open(index) || has_each(items.values(index), values)
 }
 
 /// Whether the numbers of values are numbers of a kind.
-fn holds_each(items: Parts<'_>, kind: KindIndex, values: &[EnumValueDescriptorInner]) -> bool
-    ensures { result ≡ list_all (λ v. holds (parts items.entry) kind v.number) values.now }
+fn holds_each(items: &Parts<'_>, kind: KindIndex, values: &[EnumValueDescriptorInner]) -> bool
+    ensures { result ≡ list_all (λ v. holds (parts items.now) kind v.number) values.now }
 {
     match kind {
         KindIndex::Enum(index) => enum_holds_each(items, index, values),
@@ -85,8 +85,8 @@ fn holds_each(items: Parts<'_>, kind: KindIndex, values: &[EnumValueDescriptorIn
 
 /// Whether each number of an old kind is one of a new kind, and is encoded alike.
 #[tactic(auto, unfolding(crate::specs::Kinds::keeps_numbers))]
-fn keeps_numbers(old: Parts<'_>, old_kind: KindIndex, new: Parts<'_>, new_kind: KindIndex) -> bool
-    ensures { result ≡ keeps_numbers (parts old.entry) old_kind (parts new.entry) new_kind }
+fn keeps_numbers(old: &Parts<'_>, old_kind: KindIndex, new: &Parts<'_>, new_kind: KindIndex) -> bool
+    ensures { result ≡ keeps_numbers (parts old.now) old_kind (parts new.now) new_kind }
 {
     match old_kind {
         KindIndex::Int32 => holds_all(new, new_kind),
@@ -128,8 +128,8 @@ fn text_check(proto3: bool, kind: KindIndex) -> Option<bool>
 }
 
 /// How the texts of an entry are checked.
-fn entry_check(items: Parts<'_>, entry: &Entry) -> Option<bool>
-    ensures { result ≡ entry_check (parts items.entry) entry.now }
+fn entry_check(items: &Parts<'_>, entry: &Entry) -> Option<bool>
+    ensures { result ≡ entry_check (parts items.now) entry.now }
 {
     text_check(items.in_proto3(entry.file), entry.kind)
 }
@@ -156,11 +156,11 @@ pub fn messages_of(old: KindIndex, new: KindIndex) -> Option<(u32, u32)>
 }
 
 /// Whether the kind of a new entry keeps that of an old one, where both have numbers or texts.
-pub(crate) fn keeps_scalar(old: Parts<'_>, field: &Entry, new: Parts<'_>, kept: &Entry) -> bool
+pub(crate) fn keeps_scalar(old: &Parts<'_>, field: &Entry, new: &Parts<'_>, kept: &Entry) -> bool
     ensures { result
-        ≡ (keeps_numbers (parts old.entry) field.now.kind (parts new.entry) kept.now.kind
-        || keeps_check (entry_check (parts old.entry) field.now)
-        (entry_check (parts new.entry) kept.now)) }
+        ≡ (keeps_numbers (parts old.now) field.now.kind (parts new.now) kept.now.kind
+        || keeps_check (entry_check (parts old.now) field.now)
+        (entry_check (parts new.now) kept.now)) }
 {
     keeps_numbers(old, field.kind, new, kept.kind)
         || keeps_check(entry_check(old, field), entry_check(new, kept))

@@ -20,7 +20,7 @@ fn first_lacking(
 {
     let lacking = values
         .iter()
-        .find(|value| !holds(items, kind, value.number))?;
+        .find(|value| !holds(&items, kind, value.number))?;
     Some(lacking.number)
 }
 

@@ -38,16 +38,16 @@ fn tell_joined(
 
 impl Compared<'_> {
     /// The old entry with the number of the new field at a position.
-    fn old_member(self, position: u32) -> Option<Entry>
-        ensures { result ≡ old_member (compared self.entry) position }
+    fn old_member(&self, position: u32) -> Option<Entry>
+        ensures { result ≡ old_member (compared self.now) position }
     {
         let field = self.after.fields.as_slice().get(position as usize)?;
         self.old_entry(field.number)
     }
 
     /// The first of the old entries with the numbers of the new fields at positions.
-    fn first_member(self, positions: &[u32]) -> Option<Entry>
-        ensures { result ≡ first_some (old_member (compared self.entry)) positions.now }
+    fn first_member(&self, positions: &[u32]) -> Option<Entry>
+        ensures { result ≡ first_some (old_member (compared self.now)) positions.now }
     {
         for position in positions {
             let member = self.old_member(*position);
@@ -60,12 +60,12 @@ impl Compared<'_> {
 
     /// Appends which old entries are in one new oneof now, and were not.
     pub(crate) fn tell_oneof(
-        self,
+        &self,
         changes: &mut Vec<WireChange>,
         oneof: &OneofDescriptorInner,
     ) -> Result<(), AllocError>
         ensures { OnOk result (changes.new.items ≡ changes.old.items
-            ++ oneof_changes (compared self.entry) oneof.now) }
+            ++ oneof_changes (compared self.now) oneof.now) }
     {
         let positions = oneof.fields.as_slice();
         let Some(first) = self.first_member(positions) else {

@@ -26,37 +26,37 @@ fn keeps_but_kind(field: &Entry, kept: &Entry) -> bool
 
 impl Compared<'_> {
     /// Whether the new message has the number of an old field, or keeps it free.
-    fn keeps_number(self, field: &FieldDescriptorInner) -> bool
-        ensures { result ≡ keeps_number (parts self.entry.new) self.entry.after.now field.now }
+    fn keeps_number(&self, field: &FieldDescriptorInner) -> bool
+        ensures { result ≡ keeps_number (parts self.now.new) self.now.after.now field.now }
     {
         self.new_entry(field.number).is_some() || self.new.is_kept_free(self.after, field.number)
     }
 
     /// Whether the new message has the numbers of the old fields, or keeps them free.
-    fn keeps_each_number(self) -> bool
-        ensures { result ≡ list_all (keeps_number (parts self.entry.new) self.entry.after.now)
-            self.entry.before.now.fields }
+    fn keeps_each_number(&self) -> bool
+        ensures { result ≡ list_all (keeps_number (parts self.now.new) self.now.after.now)
+            self.now.before.now.fields }
     {
         let fields = self.before.fields.as_slice();
         fields.iter().all(|field| self.keeps_number(field))
     }
 
     /// Whether nothing extends the two messages.
-    fn is_unextended(self) -> bool
-        ensures { result ≡ (length self.entry.before.now.extensions == 0
-            && length self.entry.after.now.extensions == 0) }
+    fn is_unextended(&self) -> bool
+        ensures { result ≡ (length self.now.before.now.extensions == 0
+            && length self.now.after.now.extensions == 0) }
     {
         self.before.extensions.as_slice().is_empty() && self.after.extensions.as_slice().is_empty()
     }
 
     /// Whether the kind of a new field keeps that of an old one, where messages are pairs by their
     /// names.
-    fn keeps_named_kind(self, field: &Entry, kept: &Entry) -> bool
+    fn keeps_named_kind(&self, field: &Entry, kept: &Entry) -> bool
         ensures { result ≡ keeps_kind_by
-            (λ a b. one_name (parts self.entry.old) a (parts self.entry.new) b)
-            (parts self.entry.old) field.now (parts self.entry.new) kept.now }
+            (λ a b. one_name (parts self.now.old) a (parts self.now.new) b)
+            (parts self.now.old) field.now (parts self.now.new) kept.now }
     {
-        if keeps_scalar(self.old, field, self.new, kept) {
+        if keeps_scalar(&self.old, field, &self.new, kept) {
             return true;
         }
         match messages_of(field.kind, kept.kind) {
@@ -67,10 +67,10 @@ impl Compared<'_> {
 
     /// Whether a new field keeps what the old message has of its number, where messages are pairs
     /// by their names.
-    fn keeps_named_part(self, field: &FieldDescriptorInner) -> bool
+    fn keeps_named_part(&self, field: &FieldDescriptorInner) -> bool
         ensures { result ≡ keeps_part
-            (λ a b. one_name (parts self.entry.old) a (parts self.entry.new) b)
-            (parts self.entry.old) self.entry.before.now (parts self.entry.new)
+            (λ a b. one_name (parts self.now.old) a (parts self.now.new) b)
+            (parts self.now.old) self.now.before.now (parts self.now.new)
             (field_entry field.now) }
     {
         let kept = field_entry(field);
@@ -82,11 +82,11 @@ impl Compared<'_> {
 
     /// Whether the new fields keep what the old message has of their numbers, where messages are
     /// pairs by their names.
-    fn keeps_named_parts(self) -> bool
+    fn keeps_named_parts(&self) -> bool
         ensures { result ≡ list_all (λ g. keeps_part
-            (λ a b. one_name (parts self.entry.old) a (parts self.entry.new) b)
-            (parts self.entry.old) self.entry.before.now (parts self.entry.new) (field_entry g))
-            self.entry.after.now.fields }
+            (λ a b. one_name (parts self.now.old) a (parts self.now.new) b)
+            (parts self.now.old) self.now.before.now (parts self.now.new) (field_entry g))
+            self.now.after.now.fields }
     {
         let fields = self.after.fields.as_slice();
         fields.iter().all(|field| self.keeps_named_part(field))
@@ -94,23 +94,23 @@ impl Compared<'_> {
 
     /// Whether the new message keeps the old one, where messages are pairs by their names.
     #[tactic(auto, unfolding(crate::specs::Pairs::keeps_parts))]
-    fn is_kept_by_names(self) -> bool
+    fn is_kept_by_names(&self) -> bool
         ensures { result ≡ keeps_parts
-            (λ a b. one_name (parts self.entry.old) a (parts self.entry.new) b)
-            (parts self.entry.old) self.entry.before.now
-            (parts self.entry.new) self.entry.after.now }
+            (λ a b. one_name (parts self.now.old) a (parts self.now.new) b)
+            (parts self.now.old) self.now.before.now
+            (parts self.now.new) self.now.after.now }
     {
         self.is_unextended() && self.keeps_named_parts() && self.keeps_each_number()
     }
 
     /// Whether the kind of a new field keeps that of an old one, in two messages that may have
     /// other names.
-    fn keeps_inner_kind(self, pair: (u32, u32), field: &Entry, kept: &Entry) -> bool
+    fn keeps_inner_kind(&self, pair: (u32, u32), field: &Entry, kept: &Entry) -> bool
         ensures { result ≡ keeps_kind_by
-            (are_inner_pairs (parts self.entry.old) pair.0 (parts self.entry.new) pair.1)
-            (parts self.entry.old) field.now (parts self.entry.new) kept.now }
+            (are_inner_pairs (parts self.now.old) pair.0 (parts self.now.new) pair.1)
+            (parts self.now.old) field.now (parts self.now.new) kept.now }
     {
-        if keeps_scalar(self.old, field, self.new, kept) {
+        if keeps_scalar(&self.old, field, &self.new, kept) {
             return true;
         }
         match messages_of(field.kind, kept.kind) {
@@ -125,10 +125,10 @@ impl Compared<'_> {
 
     /// Whether a new field keeps what the old message has of its number, in two messages that may
     /// have other names.
-    fn keeps_inner_part(self, pair: (u32, u32), field: &FieldDescriptorInner) -> bool
+    fn keeps_inner_part(&self, pair: (u32, u32), field: &FieldDescriptorInner) -> bool
         ensures { result ≡ keeps_part
-            (are_inner_pairs (parts self.entry.old) pair.0 (parts self.entry.new) pair.1)
-            (parts self.entry.old) self.entry.before.now (parts self.entry.new)
+            (are_inner_pairs (parts self.now.old) pair.0 (parts self.now.new) pair.1)
+            (parts self.now.old) self.now.before.now (parts self.now.new)
             (field_entry field.now) }
     {
         let kept = field_entry(field);
@@ -141,11 +141,11 @@ impl Compared<'_> {
 
     /// Whether the new fields keep what the old message has of their numbers, in two messages that
     /// may have other names.
-    fn keeps_inner_parts(self, pair: (u32, u32)) -> bool
+    fn keeps_inner_parts(&self, pair: (u32, u32)) -> bool
         ensures { result ≡ list_all (λ g. keeps_part
-            (are_inner_pairs (parts self.entry.old) pair.0 (parts self.entry.new) pair.1)
-            (parts self.entry.old) self.entry.before.now (parts self.entry.new) (field_entry g))
-            self.entry.after.now.fields }
+            (are_inner_pairs (parts self.now.old) pair.0 (parts self.now.new) pair.1)
+            (parts self.now.old) self.now.before.now (parts self.now.new) (field_entry g))
+            self.now.after.now.fields }
     {
         let fields = self.after.fields.as_slice();
         fields
@@ -155,11 +155,11 @@ impl Compared<'_> {
 
     /// Whether the new message keeps the old one, which may have another name.
     #[tactic(auto, unfolding(crate::specs::Pairs::keeps_parts))]
-    fn is_kept(self, pair: (u32, u32)) -> bool
+    fn is_kept(&self, pair: (u32, u32)) -> bool
         ensures { result ≡ keeps_parts
-            (are_inner_pairs (parts self.entry.old) pair.0 (parts self.entry.new) pair.1)
-            (parts self.entry.old) self.entry.before.now
-            (parts self.entry.new) self.entry.after.now }
+            (are_inner_pairs (parts self.now.old) pair.0 (parts self.now.new) pair.1)
+            (parts self.now.old) self.now.before.now
+            (parts self.now.new) self.now.after.now }
     {
         self.is_unextended() && self.keeps_inner_parts(pair) && self.keeps_each_number()
     }
@@ -218,14 +218,14 @@ impl Parts<'_> {
 }
 
 /// Whether the kind of a new entry keeps that of an old one.
-pub(crate) fn keeps_kind(old: Parts<'_>, field: &Entry, new: Parts<'_>, kept: &Entry) -> bool
-    ensures { result ≡ keeps_kind (parts old.entry) field.now (parts new.entry) kept.now }
+pub(crate) fn keeps_kind(old: &Parts<'_>, field: &Entry, new: &Parts<'_>, kept: &Entry) -> bool
+    ensures { result ≡ keeps_kind (parts old.now) field.now (parts new.now) kept.now }
 {
     if keeps_scalar(old, field, new, kept) {
         return true;
     }
     match messages_of(field.kind, kept.kind) {
-        Some((index, new_index)) => old.is_paired_with(index, new, new_index),
+        Some((index, new_index)) => old.is_paired_with(index, *new, new_index),
         None => false,
     }
 }

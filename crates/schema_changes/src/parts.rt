@@ -63,7 +63,7 @@ impl<'a> Parts<'a> {
         let Some(there) = other.messages.get(index as usize) else {
             return false;
         };
-        here.id.full_name() == there.id.full_name()
+        here.id.full_name == there.id.full_name
     }
 }
 
