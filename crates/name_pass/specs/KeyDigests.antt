@@ -1,8 +1,5 @@
 -- Digests of what the names of fields are told apart by.
-use Rattle.std.specs.Prelude.{ℕ, ◌<◌, ◌*◌, ◌%◌, ◌^◌, ◌==◌, bit_xor, List, [], ◌∷◌, length}
-use Rattle.std.specs.Prelude.{if◌then◌else◌}
-use Rattle.std.specs.List.{AllAdjacentBelow}
-use Rattle.std.specs.List.Sorted.{IsPermutation}
+use Rattle.std.specs.Prelude.{ℕ, ◌*◌, ◌%◌, ◌^◌, ◌==◌, bit_xor, List, [], ◌∷◌, if◌then◌else◌}
 use Rattle.proto_types.specs.Readers.{text_of}
 use Rattle.proto_types.specs.declared.records.field.FieldDescriptorProto.{FieldDescriptorProto}
 use Rattle.name_pass.specs.CamelCase.{camel_case_key}
@@ -25,11 +22,3 @@ digest_of key = digest_from 14695981039346656037 key
 -- the digest of the key of a field
 abbrev pub digest_at : FieldDescriptorProto → ℕ
 digest_at f = digest_of (camel_case_key (text_of f.name))
-
--- each number of a list is less than the next
-abbrev pub IsRising : List ℕ → Type 0
-IsRising numbers = AllAdjacentBelow (λ x y. x < y) numbers (length numbers)
-
--- numbers that can be put into an order in which they rise, so that no two are the same
-abbrev pub AreDistinct : List ℕ → Type 0
-AreDistinct numbers = (sorted : List ℕ) × IsPermutation numbers sorted × IsRising sorted

@@ -1,8 +1,10 @@
-ghost use Rattle.std.specs.Prelude.{◌≡◌, ◌≤◌, ℕ, ℤ, List, [], length, map, IsTrue, IfOk};
+ghost use Rattle.std.specs.Prelude.{◌≡◌, ◌≤◌, ℕ, ℤ, List, [], length, map, nat_eq, IsTrue, IfOk};
+ghost use Rattle.std.specs.List.{IsDistinct};
 ghost use Rattle.proto_types.specs.declared.file.FileDescriptorProto.{FileDescriptorProto};
 ghost use Rattle.name_pass.specs.CamelCase.{camel_case_faults, camel_case_key};
-ghost use Rattle.name_pass.specs.KeyDigests.{AreDistinct, IsRising, digest_at, digest_of, taken_in};
+ghost use Rattle.name_pass.specs.KeyDigests.{digest_at, digest_of, taken_in};
 
+use plain_data::are_distinct;
 use proto_types::FieldDescriptorProto;
 use std::alloc::{AllocError, Global};
 
@@ -35,15 +37,13 @@ pub(crate) fn have_distinct_digests(
 /// Whether the digests of the keys of a few fields differ, without a request for memory.
 fn few_are_distinct(fields: &[FieldDescriptorProto]) -> bool
     requires { length fields.now ≤ 32 }
-    ensures { IsTrue result → AreDistinct (map digest_at fields.now) }
+    ensures { IsTrue result → IsDistinct nat_eq (map digest_at fields.now) }
 {
     let mut digests = [0; FEW];
     for (position, field) in fields.iter().enumerate() {
         digests[position] = key_digest(field.name());
     }
-    let digests = &mut digests[..fields.len()];
-    digests.sort_unstable();
-    is_rising(digests)
+    are_distinct(&mut digests[..fields.len()])
 }
 
 /// Whether the digests of the keys of fields differ.
@@ -51,14 +51,14 @@ fn few_are_distinct(fields: &[FieldDescriptorProto]) -> bool
 /// # Errors
 /// `AllocError` where memory was refused.
 fn many_are_distinct(alloc: Global, fields: &[FieldDescriptorProto]) -> Result<bool, AllocError>
-    ensures { IfOk result (λ distinct. IsTrue distinct → AreDistinct (map digest_at fields.now)) }
+    ensures { IfOk result (λ distinct. IsTrue distinct
+        → IsDistinct nat_eq (map digest_at fields.now)) }
 {
     let mut digests = Vec::with_capacity(alloc, fields.len())?;
     for field in fields {
         digests.push(key_digest(field.name()))?;
     }
-    digests.sort_unstable();
-    Ok(is_rising(&digests))
+    Ok(are_distinct(&mut digests))
 }
 
 /// The digest of what the name of a field is told apart by, which is that of the name itself.
@@ -82,16 +82,4 @@ fn taken_in(digest: u64, byte: u8) -> u64
     } else {
         (digest ^ digit as u64).wrapping_mul(1099511628211)
     }
-}
-
-/// Whether each number is less than the next.
-fn is_rising(numbers: &[u64]) -> bool
-    ensures { IsTrue result → IsRising numbers.now }
-{
-    for next in 1..numbers.len() {
-        if numbers[next - 1] >= numbers[next] {
-            return false;
-        }
-    }
-    true
 }

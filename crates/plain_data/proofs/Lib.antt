@@ -7,3 +7,4 @@ pub mod Positions
 pub mod Rows
 pub mod TextEntries
 pub mod Enumerated
+pub mod Distinct

@@ -23,7 +23,8 @@ use Rattle.std.proofs.lemmas.Map.Keys.{IsDistinct-IsPermutation}
 use Rattle.plain_data.specs.declared.text_rows.Row.{Row}
 use Rattle.plain_data.specs.TextEntries as looked
 use Rattle.plain_data.proofs.TextEntries as plain
-use Rattle.plain_data.specs.TextRows.{digest_of, IsDigested, AreDigested, text_order, made_of, text_of, text_at, entries_of, no_row, IsRow, AreWithin, Holds, Lacks, bound, IsRun, AreRuns, IsSound, Covers}
+use Rattle.plain_data.specs.Digests.{digest_of}
+use Rattle.plain_data.specs.TextRows.{IsDigested, AreDigested, text_order, made_of, text_of, text_at, entries_of, no_row, IsRow, AreWithin, Holds, Lacks, bound, IsRun, AreRuns, IsSound, Covers}
 use Rattle.plain_data.proofs.Entries.{IsIn, within-same}
 use Rattle.std.proofs.lemmas.List.Elements.{All-head, All-tail, All-nil, All-cons}
 use Rattle.std.proofs.lemmas.Map.Views.{All-map-IsPermutation}

@@ -37,3 +37,7 @@ with_ending digest text =
 abbrev pub digest_after : ℕ → List ℕ → ℕ
 digest_after front text =
     with_ending (with_words (length text / 8) (bit_xor front (length text)) text) text
+
+-- the high half of the digest of a text behind no other
+abbrev pub digest_of : List ℕ → ℕ
+digest_of text = digest_after 0 text / 2 ^ 32

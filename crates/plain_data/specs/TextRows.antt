@@ -1,5 +1,5 @@
 -- Rows that say where a text stands in a list of bytes, each with a number.
-use Rattle.std.specs.Prelude.{◌≡◌, ◌≢◌, ℕ, ◌+◌, ◌/◌, ◌^◌, ◌<◌}
+use Rattle.std.specs.Prelude.{◌≡◌, ◌≢◌, ℕ, ◌+◌, ◌<◌}
 use Rattle.std.specs.Prelude.{◌≤◌, List, ◌∷◌, map as each, length}
 use Rattle.std.specs.Prelude.{slice_range, slice_index_or}
 use Rattle.std.specs.Cmp.Lexicographic.{slice_cmp}
@@ -11,7 +11,7 @@ use Rattle.std.specs.Str.{bytes_eq}
 use Rattle.std.specs.declared.cmp.Ordering.{Ordering}
 use Rattle.std.specs.declared.cmp.Ordering.TheVariants.{Less}
 use Rattle.std.specs.declared.option.Option.TheVariants.{Some}
-use Rattle.plain_data.specs.Digests.{digest_after}
+use Rattle.plain_data.specs.Digests.{digest_of}
 use Rattle.plain_data.specs.Maps.{ByText}
 use Rattle.plain_data.specs.declared.text_rows.Row.{Row}
 
@@ -34,11 +34,6 @@ no_row = record { start = 0; end = 0; number = 0; hash = 0 }
 -- the text of the row at a position
 abbrev pub text_at : List ℕ → List Row → ℕ → List ℕ
 text_at bytes rows at = text_of bytes (slice_index_or rows at no_row)
-
--- the digest of a text, by which texts are told apart at first sight: the high half of it behind no
--- other
-abbrev pub digest_of : List ℕ → ℕ
-digest_of text = digest_after 0 text / 2 ^ 32
 
 -- texts by that number, and those of one number by their bytes
 abbrev pub text_order : List ℕ → List ℕ → Ordering

@@ -1,5 +1,8 @@
-ghost use Rattle.std.specs.Prelude.{◌≡◌, ◌<◌, ◌≤◌, length, MatchOption};
-ghost use Rattle.plain_data.specs.Digests.{both_ends, digest_after, taken_in, with_ending};
+ghost use Rattle.std.specs.Prelude.{◌≡◌, ◌<◌, ◌≤◌, ◌↔◌, length, nat_eq, IsTrue, MatchOption};
+ghost use Rattle.std.specs.List.{IsDistinct};
+ghost use Rattle.std.specs.List.Sorted.{IsNonDecreasing, IsPermutation, IsStrictlyIncreasing};
+ghost use Rattle.plain_data.specs.Digests.{both_ends, digest_after, digest_of, taken_in};
+ghost use Rattle.plain_data.specs.Digests.{with_ending};
 
 /// A number by which texts are told apart at first sight, for a text that stands behind others with
 /// such a number: its length, and eight bytes at a time, of which the last eight are taken in once
@@ -14,6 +17,13 @@ pub fn digest_after(front: u64, text: &[u8]) -> u64
         rest = behind;
     }
     with_ending(digest, text)
+}
+
+/// Half of such a number, of a text behind no other.
+pub(crate) fn digest(text: &[u8]) -> u32
+    ensures { result ≡ digest_of text.now }
+{
+    (digest_after(0, text) / 0x1_0000_0000) as u32
 }
 
 /// A digest with the last eight bytes of a text; of a text that has fewer, with the first and the
@@ -51,4 +61,26 @@ fn taken_in(digest: u64, number: u64) -> u64
 {
     let product = (digest ^ number).wrapping_mul(11400714819323198485);
     product ^ product / 0x1_0000_0000
+}
+
+/// Puts numbers in order, and answers whether no two are the same.
+pub fn are_distinct(numbers: &mut [u64]) -> bool
+    ensures distinct { IsTrue result ↔ IsDistinct nat_eq numbers.old }
+    ensures moved { IsPermutation numbers.old numbers.new }
+    ensures order { IsNonDecreasing numbers.new }
+{
+    numbers.sort_unstable();
+    is_rising(numbers)
+}
+
+/// Whether each number is less than the next.
+fn is_rising(numbers: &[u64]) -> bool
+    ensures { IsTrue result ↔ IsStrictlyIncreasing numbers.now }
+{
+    for next in 1..numbers.len() {
+        if numbers[next - 1] >= numbers[next] {
+            return false;
+        }
+    }
+    true
 }

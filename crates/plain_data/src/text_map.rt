@@ -7,7 +7,8 @@ ghost use Rattle.std.specs.Map.{keys_of, lookup};
 ghost use Rattle.std.specs.Str.{bytes_eq};
 ghost use Rattle.plain_data.specs.TextEntries.{AreApart, Holds, Lacks, LacksFrom};
 
-use crate::text_rows::{FEW, RowList, TextRows, digest};
+use crate::digests::digest;
+use crate::text_rows::{FEW, RowList, TextRows};
 use crate::{Duplicate, Text};
 use std::alloc::{AllocError, Global};
 use std::fmt;
@@ -227,22 +228,14 @@ fn map_of(entries: Vec<(Text, u32)>) -> Result<TextMap, AllocError>
     ensures { IfOk result (λ made. made ≡ inserted entries.items) }
 {
     if entries.len() > FEW || !are_apart(entries.as_slice()) {
-        return one_by_one(*entries.allocator(), entries.as_slice());
+        let rows = rows_of(*entries.allocator(), entries.as_slice())?;
+        return Ok(TextMap {
+            held: Held::Many(rows),
+        });
     }
     Ok(TextMap {
         held: Held::Few(entries),
     })
-}
-
-/// The map of entries that are put in one after another.
-fn one_by_one(alloc: Global, entries: &[(Text, u32)]) -> Result<TextMap, AllocError>
-    ensures { IfOk result (λ made. made ≡ inserted entries.now) }
-{
-    let mut made = TextMap::new(alloc);
-    for entry in entries {
-        made.insert(entry.0.as_str(), entry.1)?;
-    }
-    Ok(made)
 }
 
 /// The rows of entries that are put in one after another.
@@ -263,9 +256,9 @@ fn push(entries: &mut Vec<(Text, u32)>, key: &str, number: u32) -> Result<(), Al
     ensures ok { OnOk result (entries.new.items ≡ entries.old.items ++ (key.now, number) ∷ []) }
     ensures err { OnErr result (entries.new.items ≡ entries.old.items) }
 {
-    let text = Text::from_str(*entries.allocator(), key)?;
+    let alloc = *entries.allocator();
     entries.reserve(1)?;
-    entries.push_reserved((text, number));
+    entries.push_reserved((Text::from_str(alloc, key)?, number));
     Ok(())
 }
 

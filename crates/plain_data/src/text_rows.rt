@@ -5,12 +5,13 @@ ghost use Rattle.std.specs.FinMap as map;
 ghost use Rattle.std.specs.List.Sorted.{IsPermutation};
 ghost use Rattle.std.specs.Map.{lookup};
 ghost use Rattle.std.specs.Str.{bytes_eq};
-ghost use Rattle.plain_data.specs.TextRows.{digest_of, IsDigested, AreDigested};
+ghost use Rattle.plain_data.specs.Digests.{digest_of};
+ghost use Rattle.plain_data.specs.TextRows.{IsDigested, AreDigested};
 ghost use Rattle.plain_data.specs.TextRows.{text_order, made_of, text_of, entries_of};
 ghost use Rattle.plain_data.specs.TextRows.{IsRow, IsSound, AreWithin, bound, IsRun, AreRuns};
 ghost use Rattle.plain_data.specs.TextRows.{Holds, Lacks, LacksFrom, Covers};
 
-use crate::digests::digest_after;
+use crate::digests::digest;
 use crate::text_map::TextMap;
 use std::alloc::{AllocError, Global};
 use std::cmp::Ordering;
@@ -337,13 +338,6 @@ fn order(bytes: &[u8], row: &Row, hash: u32, key: &[u8]) -> Ordering
         Ordering::Equal => row.text(bytes).cmp(key),
         other => other,
     }
-}
-
-/// A number by which texts are told apart at first sight.
-pub(crate) fn digest(text: &[u8]) -> u32
-    ensures { result ≡ digest_of text.now }
-{
-    (digest_after(0, text) / 0x1_0000_0000) as u32
 }
 
 /// The first row of a text from a position on, if there is one.

@@ -3,7 +3,7 @@ use Rattle.std.proofs.lemmas.List.{get_or-take, get_or_read}
 use Rattle.std.proofs.Math.ListN.{length-set}
 use Rattle.std.proofs.lemmas.Grind.{common_steps}
 use Rattle.plain_data.specs.TextEntries.{LacksFrom, Lacks, text_at}
-use Rattle.plain_data.specs.TextRows.{digest_of}
+use Rattle.plain_data.specs.Digests.{digest_of}
 use Rattle.plain_data.proofs.text_map.differ_by_digests.Goals as goal
 use Rattle.plain_data.proofs.text_map.differ_by_digests.Goals.{else-seen-bits-via-then-seen-bits+else-is_among, else-seen-bits-via-else-seen-bits}
 

@@ -1,6 +1,6 @@
 use Rattle.std.proofs.Common.{◌≡◌, ◌<◌, ◌/◌, ◌%◌, ℕ, true, length, get_or, false}
 use Rattle.plain_data.specs.TextEntries.{LacksFrom, text_at}
-use Rattle.plain_data.specs.TextRows.{digest_of}
+use Rattle.plain_data.specs.Digests.{digest_of}
 use Rattle.plain_data.proofs.text_map.differ_by_digests.Given as goal
 
 -- no entry so far has the text of an earlier one, and the bits of each are seen

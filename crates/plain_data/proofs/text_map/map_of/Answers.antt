@@ -3,8 +3,8 @@ use Rattle.plain_data.specs.TextEntries.{AreApart}
 use Rattle.plain_data.proofs.TextEntries.{distinct-looked, entries-inserted}
 use Rattle.plain_data.proofs.text_map.map_of.Goals as goal
 
-pub invariant_of-result : goal.invariant_of-result
-invariant_of-result c =
+pub invariant_of-result-2 : goal.invariant_of-result-2
+invariant_of-result-2 c =
     let entries = c.args.entries.items in
     let apart : AreApart entries (length entries) = rw (← c.as_slice.ensures.value) (c.are_apart.ensures (search rules)) in
     distinct-looked entries apart

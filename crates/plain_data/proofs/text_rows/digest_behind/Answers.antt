@@ -1,6 +1,7 @@
 use Rattle.std.proofs.Common.{◌≡◌, ◌+◌, ◌<◌, sym, ◌∙◌, subst, arith, rules, slice_index_or, slice_set, take, length}
 use Rattle.std.proofs.lemmas.List.{get_or_read, take-set-le}
-use Rattle.plain_data.specs.TextRows.{AreDigested, AreWithin, digest_of, entries_of, no_row, text_at}
+use Rattle.plain_data.specs.Digests.{digest_of}
+use Rattle.plain_data.specs.TextRows.{AreDigested, AreWithin, entries_of, no_row, text_at}
 use Rattle.plain_data.proofs.Rows.{as-many, digested-more, entries-digest, hashed, within-digest}
 use Rattle.plain_data.proofs.text_rows.digest_behind.Goals as goal
 
