@@ -8,7 +8,6 @@ ghost use Rattle.name_tables.specs.Branches.{AreBranches, names_of};
 ghost use Rattle.name_tables.specs.Scopes.{IsAround, IsBranchOf};
 
 use crate::branches::Branches;
-use crate::parts::is_part;
 use crate::tree::NameTree;
 use pool_types::Definition;
 use std::marker::Model;
@@ -116,22 +115,10 @@ pub(crate) fn go_down(tree: &NameTree, from: u32, name: &str) -> Option<u32>
     ensures none { result ≡ None → (k : ℕ) → IsDescendant tree.now from (parts name.now) k → ⊥ }
 {
     if from == 0 {
-        return tree.look_up(name);
+        tree.look_up(name)
+    } else {
+        tree.descend(from, name)
     }
-    if is_part(name) {
-        return child_named(tree, from, name);
-    }
-    tree.descend(from, name)
-}
-
-/// The branch to which a name without a dot leads from another.
-#[inline(always)]
-fn child_named(tree: &NameTree, from: u32, name: &str) -> Option<u32>
-    requires { parts name.now ≡ name.now ∷ [] }
-    ensures found { IfSome result (λ k. IsDescendant tree.now from (parts name.now) k) }
-    ensures none { result ≡ None → (k : ℕ) → IsDescendant tree.now from (parts name.now) k → ⊥ }
-{
-    tree.find(from, name.as_bytes())
 }
 
 /// The text of the scope around another: what stands before its last part.

@@ -10,7 +10,7 @@ use crate::nodes::{
     push_leaf, remove_last,
 };
 use crate::part_texts::PartTexts;
-use crate::parts::Parts;
+use crate::parts::{Parts, is_part};
 use plain_data::digest_after;
 use std::alloc::{AllocError, Global};
 use std::marker::Model;
@@ -77,7 +77,21 @@ impl NameTree {
 
     /// The branch to which the parts of a text lead down from another, or none where they lead
     /// nowhere.
+    // Inlined, so that a name of one part is looked for by one call.
+    #[inline(always)]
     pub fn descend(&self, from: u32, text: &str) -> Option<u32>
+        ensures found { IfSome result (λ k. IsDescendant self.now from (parts text.now) k) }
+        ensures none { result ≡ None
+            → (k : ℕ) → IsDescendant self.now from (parts text.now) k → ⊥ }
+    {
+        if is_part(text) {
+            return self.find(from, text.as_bytes());
+        }
+        self.descend_parts(from, text)
+    }
+
+    /// The branch to which the parts of a text lead down, one after another.
+    fn descend_parts(&self, from: u32, text: &str) -> Option<u32>
         ensures found { IfSome result (λ k. IsDescendant self.now from (parts text.now) k) }
         ensures none { result ≡ None
             → (k : ℕ) → IsDescendant self.now from (parts text.now) k → ⊥ }
@@ -111,7 +125,7 @@ impl NameTree {
                 return Some(at);
             }
         }
-        self.descend(0, name)
+        self.descend_parts(0, name)
     }
 
     /// The part of a branch.

@@ -1,21 +1,24 @@
-use Rattle.std.proofs.Common.{sym, subst, refl}
+use Rattle.std.proofs.Common.{ℕ, Option, None, Some, IfSome, sym, subst, refl}
 use Rattle.name_tables.specs.Tree.{IsChild, IsDescendant}
+use Rattle.name_tables.specs.Parts.{parts}
 use Rattle.name_tables.proofs.tree.NameTree.descend.Goals as goal
 
-pub returns-in_err-at-clause-none : goal.returns-in_err-at-clause-none
-returns-in_err-at-clause-none c = λ none k down.
-    let here = subst (λ ps. IsDescendant c.args.self.now c.loop-part.at ps k) c.in-Some.ensures.steps (c.loop-part.invariant.3 k down) in
-    c.in_err-at.ensures.none refl here.0 (subst (λ part. IsChild c.args.self.now c.loop-part.at part here.0) (sym c.as_bytes.ensures.value) here.1)
+if-some : {P Q : ℕ → Type 0} (found : Option ℕ) → ((k : ℕ) → P k → Q k) → IfSome found P → IfSome found Q
+if-some None as_well some = some
+if-some (Some k) as_well some = as_well k some
 
-pub loop-part-preserved : goal.loop-part-preserved
-loop-part-preserved c = (
-  tt,
-  tt,
-  λ k down. c.loop-part.invariant.2 k
-      (subst (λ ps. IsDescendant c.args.self.now c.loop-part.at ps k) (sym c.in-Some.ensures.steps)
-      (c.in_ok-at.at, subst (λ part. IsChild c.args.self.now c.loop-part.at part c.in_ok-at.at) c.as_bytes.ensures.value c.in_ok-at.ensures.found, down)),
-  λ k down.
-      let here = subst (λ ps. IsDescendant c.args.self.now c.loop-part.at ps k) c.in-Some.ensures.steps (c.loop-part.invariant.3 k down) in
-      let below = subst (λ part. IsChild c.args.self.now c.loop-part.at part here.0) (sym c.as_bytes.ensures.value) here.1 in
-      subst (λ j. IsDescendant c.args.self.now j c.next.new.self k) (c.in_ok-at.ensures.only here.0 below) here.2,
-)
+-- a name of one part leads to a child
+pub returns-then-is_part-clause-found : goal.returns-then-is_part-clause-found
+returns-then-is_part-clause-found c =
+    let tree = c.args.self.now in
+    let one = c.is_part.ensures c.if-is_part.true in
+    if-some {P = IsChild tree c.args.from c.as_bytes.result.now} {Q = IsDescendant tree c.args.from (parts c.args.text.now)} c.find.result
+    (λ k child. subst (λ ps. IsDescendant tree c.args.from ps k) (sym one)
+    (k, subst (λ part. IsChild tree c.args.from part k) c.as_bytes.ensures.value child, refl)) c.find.ensures.found
+
+pub returns-then-is_part-clause-none : goal.returns-then-is_part-clause-none
+returns-then-is_part-clause-none c = λ none k down.
+    let tree = c.args.self.now in
+    let one = c.is_part.ensures c.if-is_part.true in
+    let here = subst (λ ps. IsDescendant tree c.args.from ps k) one down in
+    c.find.ensures.none none here.0 (subst (λ part. IsChild tree c.args.from part here.0) (sym c.as_bytes.ensures.value) here.1)

@@ -1,7 +1,7 @@
 use Rattle.std.proofs.Common.{ℕ}
 use Rattle.name_tables.specs.Tree.{IsDescendant}
 use Rattle.name_tables.specs.Parts.{parts}
-use Rattle.name_tables.proofs.tree.NameTree.descend.Given as goal
+use Rattle.name_tables.proofs.tree.NameTree.descend_parts.Given as goal
 
 -- the parts that are left lead from here to where all lead
 abbrev pub invariant-loop-part : goal.invariant-loop-part
