@@ -153,7 +153,7 @@ fn check_number(
 }
 
 /// Appends to `faults` that two fields have one number, the earlier first.
-// Not inlined, as the one below isn't, since few fields come to it.
+// Not inlined, since few fields come to it.
 #[inline(never)]
 fn tell_same_number(
     faults: &mut Faults,

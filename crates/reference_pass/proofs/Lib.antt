@@ -8,3 +8,4 @@ pub mod Steps
 pub mod Numbered
 pub mod Unbroken
 pub mod Seen
+pub mod Fields

@@ -25,7 +25,7 @@ use crate::earlier::EarlierExtensions;
 use crate::field::is_proto3;
 use crate::reading::Reading;
 use crate::references::index_or_max;
-use crate::types::type_and_default;
+use crate::types::extension_type;
 use field_rules::{Owner, check_extension_number, identity, is_packed, item_number};
 use name_resolution::{ResolveNameFilter, ResolveNameResult};
 use plain_data::Text;
@@ -61,7 +61,7 @@ pub fn read_extension(
     let id = identity(reading.faults.alloc, place, extension.name())?;
     let json_name = bracketed(reading.faults.alloc, place.full_name)?;
     let extendee = read_extendee(reading, place, extension, earlier)?;
-    let (kind, default) = type_and_default(reading, place, extension)?;
+    let (kind, default) = extension_type(reading, place, extension)?;
     let kind = kind.unwrap_or(KindIndex::Double);
     Ok(ExtensionDescriptorInner {
         id,

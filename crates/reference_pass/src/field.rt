@@ -1,5 +1,7 @@
 ghost use Rattle.std.specs.Prelude.{◌≡◌, ◌+◌, ◌<◌, ◌^◌, ◌++◌, true, IfOk, OnOk, length, drop};
-ghost use Rattle.std.specs.Prelude.{get_or, unwrap_or};
+ghost use Rattle.std.specs.Prelude.{List, [], IfSome, get_or, unwrap_or};
+ghost use Rattle.record_walk.specs.Shown.{Shown};
+ghost use Rattle.proto_types.specs.declared.file.FileDescriptorProto.{FileDescriptorProto};
 ghost use Rattle.proto_types.specs.declared.records.field.FieldDescriptorProto.{FieldDescriptorProto};
 ghost use Rattle.pool_types.specs.declared.kinds.KindIndex.TheVariants.{Double};
 ghost use Rattle.proto_types.specs.Field.{no_field};
@@ -11,7 +13,7 @@ ghost use Rattle.field_rules.specs.InnerNames.{AreNamesOf};
 ghost use Rattle.reference_pass.specs.SecondPass.{field_record_faults};
 ghost use Rattle.reference_pass.specs.Defaults.{field_default, field_default_faults};
 ghost use Rattle.reference_pass.specs.Types.{field_kind, type_faults};
-ghost use Rattle.reference_pass.specs.Plain.{field_of, field_shown, record_of};
+ghost use Rattle.reference_pass.specs.Plain.{IsPlain, field_of, field_shown, record_of};
 ghost use Rattle.field_rules.specs.Numbers.{field_number_faults};
 ghost use Rattle.reference_pass.specs.Items.{field_item};
 ghost use Rattle.reference_pass.specs.Reading.{ReadingTells, setting_of};
@@ -29,6 +31,7 @@ use plain_data::duplicate_option;
 use pool_types::{
     DefaultValue, FieldDescriptorInner, Identity, KindIndex, Syntax, cardinality_of, syntax_at,
 };
+use proto_types::FieldDescriptorProto;
 use record_walk::Place;
 use std::alloc::AllocError;
 
@@ -44,6 +47,75 @@ pub(crate) struct FieldOwner<'a> {
 /// The item of the field of a message with a position, whose full name comes next. What the field
 /// breaks by itself is appended to `reading`: its number, its type, its default value, its oneof.
 pub(crate) fn read_field(
+    reading: &mut Reading,
+    of: &FieldOwner,
+    names: &mut InnerNames,
+    position: usize,
+) -> Result<FieldDescriptorInner, AllocError>
+    requires short { lists_fit (of_message of.now.owner.message.now) ≡ true }
+    requires ranges { AreRangesOf of.now.ranges.now of.now.owner.message.now }
+    requires proto3 { of.now.is_proto3
+        ≡ is_proto3 (syntax_at (setting_of reading.old).files of.now.owner.place.file) }
+    requires there { position < length (out-DescriptorProto of.now.owner.message.now).field }
+    requires names { AreNamesOf names.old of.now.owner.place.full_name.now
+        (drop position (out-DescriptorProto of.now.owner.message.now).field) }
+    ensures item { IfOk result (λ item. item
+        ≡ field_item (setting_of reading.old)
+        (out-DescriptorProto of.now.owner.message.now).oneof_decl
+        (field_at (inside_of of.now.owner.place) position
+        (get_or (out-DescriptorProto of.now.owner.message.now).field position no_field))
+        (get_or (out-DescriptorProto of.now.owner.message.now).field position no_field)) }
+    ensures begins { IfOk result (λ item. BeginsAtBoundary item.id) }
+    ensures names { OnOk result (AreNamesOf names.new of.now.owner.place.full_name.now
+        (drop (position + 1) (out-DescriptorProto of.now.owner.message.now).field)) }
+    ensures faults { OnOk result (ReadingTells reading.old reading.new
+        (field_record_faults (setting_of reading.old)
+        (message_at of.now.owner.place of.now.owner.message.now, of.now.owner.message.now)
+        (field_at (inside_of of.now.owner.place) position
+        (get_or (out-DescriptorProto of.now.owner.message.now).field position no_field))
+        (get_or (out-DescriptorProto of.now.owner.message.now).field position no_field))) }
+{
+    let field = &of.owner.message.field.as_slice()[position];
+    let Some(kind) = free_kind(reading, of, field) else {
+        return read_any_field(reading, of, names, position);
+    };
+    let id = identity_of_field(names, of.owner.place, position, field)?;
+    let json_name = duplicate_option(reading.faults.alloc, &field.json_name)?;
+    let oneofs = of.owner.message.oneof_decl.as_slice();
+    check_oneof_index(&mut reading.faults, oneofs, field)?;
+    Ok(FieldDescriptorInner {
+        id,
+        number: item_number(field.number()),
+        json_name,
+        kind,
+        oneof: oneof_of(oneofs, field),
+        is_packed: is_packed(of.is_proto3, kind, field),
+        supports_presence: supports_presence(of.is_proto3, kind, field),
+        cardinality: cardinality_of(field.label()),
+        default: None,
+    })
+}
+
+/// The kind of a field of a message whose number is free, and whose type and default value break
+/// nothing, as `plain_kind` answers it.
+#[inline(always)]
+fn free_kind(reading: &Reading, of: &FieldOwner, field: &FieldDescriptorProto) -> Option<KindIndex>
+    requires { AreRangesOf of.now.ranges.now of.now.owner.message.now }
+    ensures plain { IfSome result (λ kind. (d : Shown) → d.file ≡ of.now.owner.place.file
+        → IsPlain (setting_of reading.now) d field.now kind) }
+    ensures free { IfSome result (λ kind. (files : List FileDescriptorProto) (owner d : Shown)
+        → field_number_faults files owner of.now.owner.message.now d field.now ≡ []) }
+{
+    if !is_free_number(of.ranges, field) {
+        return None;
+    }
+    plain_kind(reading, of.owner.place.file, field)
+}
+
+/// Does what `read_field` does, of any field.
+// Not inlined, since few fields come to it.
+#[inline(never)]
+fn read_any_field(
     reading: &mut Reading,
     of: &FieldOwner,
     names: &mut InnerNames,
@@ -95,8 +167,6 @@ pub(crate) fn read_field(
 /// The kind of the type of a field of a message and its default value, where one is given; where
 /// the type has a fault, a number stands in for it. What the field breaks by itself is appended to
 /// `reading`.
-// Inlined, so that its answer is not written to memory.
-#[inline(always)]
 fn check_field(
     reading: &mut Reading,
     of: &FieldOwner,
@@ -117,7 +187,7 @@ fn check_field(
         (field_of of.now id.now position) (record_of of.now position))) }
 {
     check_number(reading, of, id, position)?;
-    let (kind, default) = read_type(reading, of, id, position)?;
+    let (kind, default) = check_type(reading, of, id, position)?;
     let oneofs = of.owner.message.oneof_decl.as_slice();
     let field = &of.owner.message.field.as_slice()[position];
     check_oneof_index(&mut reading.faults, oneofs, field)?;
@@ -140,61 +210,7 @@ fn place_of<'a>(owner: Place, id: &'a Identity, position: usize) -> Place<'a, 'a
 }
 
 /// Appends to `reading` what the number of a field of a message breaks.
-#[inline(always)]
 fn check_number(
-    reading: &mut Reading,
-    of: &FieldOwner,
-    id: &Identity,
-    position: usize,
-) -> Result<(), AllocError>
-    requires short { lists_fit (of_message of.now.owner.message.now) ≡ true }
-    requires ranges { AreRangesOf of.now.ranges.now of.now.owner.message.now }
-    requires there { position < length (out-DescriptorProto of.now.owner.message.now).field }
-    ensures { OnOk result (ReadingTells reading.old reading.new
-        (field_number_faults (setting_of reading.old).files
-        (message_at of.now.owner.place of.now.owner.message.now) of.now.owner.message.now
-        (field_of of.now id.now position) (record_of of.now position))) }
-{
-    let field = &of.owner.message.field.as_slice()[position];
-    if is_free_number(of.ranges, field) {
-        return Ok(());
-    }
-    tell_number(reading, of, id, position)
-}
-
-/// The kind of the type of a field of a message and its default value, as `check_field` answers
-/// them. What these break is appended to `reading`.
-#[inline(always)]
-fn read_type(
-    reading: &mut Reading,
-    of: &FieldOwner,
-    id: &Identity,
-    position: usize,
-) -> Result<(KindIndex, Option<DefaultValue>), AllocError>
-    requires short { lists_fit (of_message of.now.owner.message.now) ≡ true }
-    requires there { position < length (out-DescriptorProto of.now.owner.message.now).field }
-    ensures kind { IfOk result (λ t. t.0 ≡ unwrap_or
-        (field_kind (setting_of reading.old) (field_of of.now id.now position)
-        (record_of of.now position)) Double) }
-    ensures default { IfOk result (λ t. t.1 ≡ field_default (setting_of reading.old)
-        (field_of of.now id.now position) (record_of of.now position)) }
-    ensures faults { OnOk result (ReadingTells reading.old reading.new
-        (type_faults (setting_of reading.old) (field_of of.now id.now position)
-        (record_of of.now position)
-        ++ field_default_faults (setting_of reading.old) (field_of of.now id.now position)
-        (record_of of.now position))) }
-{
-    let field = &of.owner.message.field.as_slice()[position];
-    match plain_kind(reading, of.owner.place.file, field) {
-        Some(kind) => Ok((kind, None)),
-        None => check_type(reading, of, id, position),
-    }
-}
-
-/// Does what `check_number` does, of any field.
-// Not inlined, as `check_type` is not, since few fields come to it.
-#[inline(never)]
-fn tell_number(
     reading: &mut Reading,
     of: &FieldOwner,
     id: &Identity,
@@ -213,8 +229,8 @@ fn tell_number(
     check_field_number(&mut reading.faults, of.owner, of.ranges, place, field)
 }
 
-/// Does what `read_type` does, of any field.
-#[inline(never)]
+/// The kind of the type of a field of a message and its default value, as `check_field` answers
+/// them. What these break is appended to `reading`.
 fn check_type(
     reading: &mut Reading,
     of: &FieldOwner,

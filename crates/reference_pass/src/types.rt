@@ -31,10 +31,34 @@ use proto_types::{FieldDescriptorProto, FieldType, tag};
 use record_walk::{Faults, Place};
 use std::alloc::AllocError;
 
-/// The kind of the type of a field or an extension, where it has one, and the default value, where
-/// one is given. What these break is appended to `reading`, the type before the default.
+/// The kind of the type of an extension, where it has one, and the default value, where one is
+/// given. What these break is appended to `reading`, the type before the default.
 // Inlined, so that neither is written to memory.
 #[inline(always)]
+pub(crate) fn extension_type(
+    reading: &mut Reading,
+    place: Place,
+    field: &FieldDescriptorProto,
+) -> Result<(Option<KindIndex>, Option<DefaultValue>), AllocError>
+    ensures kind { IfOk result (λ t. t.0
+        ≡ field_kind (setting_of reading.old)
+        (shown_at place.entry (of_field field.now)) field.now) }
+    ensures default { IfOk result (λ t. t.1
+        ≡ field_default (setting_of reading.old)
+        (shown_at place.entry (of_field field.now)) field.now) }
+    ensures faults { OnOk result (ReadingTells reading.old reading.new
+        (type_faults (setting_of reading.old)
+        (shown_at place.entry (of_field field.now)) field.now
+        ++ field_default_faults (setting_of reading.old)
+        (shown_at place.entry (of_field field.now)) field.now)) }
+{
+    match plain_kind(reading, place.file, field) {
+        Some(kind) => Ok((Some(kind), None)),
+        None => type_and_default(reading, place, field),
+    }
+}
+
+/// Does what `extension_type` does, of any field or extension, whether its type is plain or not.
 pub(crate) fn type_and_default(
     reading: &mut Reading,
     place: Place,
@@ -52,9 +76,6 @@ pub(crate) fn type_and_default(
         ++ field_default_faults (setting_of reading.old)
         (shown_at place.entry (of_field field.now)) field.now)) }
 {
-    if let Some(kind) = plain_kind(reading, place.file, field) {
-        return Ok((Some(kind), None));
-    }
     if field.type_name().is_empty() {
         return written_type(&mut reading.faults, place, field);
     }

@@ -44,5 +44,5 @@ returns-clause-faults c =
     let oneof : Faults = oneof_faults (out-DescriptorProto m).oneof_decl f in
     let first = c.in_ok-check_number.ensures in
     let second = reads-as (ap (λ t. type_faults t d f ++ field_default_faults t d f) (same-setting first)) c.in_ok-kind.ensures.faults in
-    let third = reads-as (λ j. oneof_faults (c.as_slice-oneofs.ensures j) (own j)) (reads-told {r = c.read_type.new.reading} c.in_ok-check_oneof_index.ensures) in
+    let third = reads-as (λ j. oneof_faults (c.as_slice-oneofs.ensures j) (own j)) (reads-told {r = c.check_type.new.reading} c.in_ok-check_oneof_index.ensures) in
     reads-as (ap (λ fs. fs ++ oneof) (sym (append_assoc number typing default))) (reads-two (reads-two first second) third)

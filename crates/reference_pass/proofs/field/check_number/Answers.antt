@@ -9,7 +9,7 @@ use Rattle.field_rules.specs.Numbers.{field_number_faults}
 use Rattle.reference_pass.specs.Plain.{field_shown, record_of}
 use Rattle.reference_pass.specs.Reading.{setting_of}
 use Rattle.reference_pass.proofs.Readings.{reads-as, reads-told}
-use Rattle.reference_pass.proofs.field.tell_number.Goals as goal
+use Rattle.reference_pass.proofs.field.check_number.Goals as goal
 
 pub returns : goal.returns
 returns c =

@@ -1,5 +1,4 @@
-use Rattle.std.proofs.Common.{◌≡◌, ℕ, ◌+◌, ◌<◌, List, ◌∷◌, Some, rules, FitsSigned, w32, to_z-of_z, length, drop, get_or, unwrap_or, ap, sym, subst, ◌∙◌, add-one}
-use Rattle.std.proofs.Math.Seq.{drop-cons}
+use Rattle.std.proofs.Common.{◌≡◌, ℕ, ◌+◌, List, Some, rules, FitsSigned, w32, to_z-of_z, drop, get_or, unwrap_or, ap, subst, ◌∙◌}
 use Rattle.std.proofs.lemmas.List.{get_or_default}
 use Rattle.pool_types.specs.Kinds.{cardinality_of}
 use Rattle.pool_types.specs.declared.kinds.KindIndex.TheVariants.{Double}
@@ -25,13 +24,8 @@ use Rattle.reference_pass.specs.Defaults.{field_default}
 use Rattle.reference_pass.specs.Types.{field_kind}
 use Rattle.reference_pass.specs.Reading.{setting_of}
 use Rattle.reference_pass.proofs.Readings.{reads-as}
-use Rattle.reference_pass.proofs.field.read_field.Goals as goal
-
--- the field comes next, before those behind it
-came : (fs : List FieldDescriptorProto) (i : ℕ) (g : FieldDescriptorProto) → i < length fs → g ≡ get_or fs i no_field → drop i fs ≡ g ∷ drop (i + 1) fs
-came fs i g there own =
-    let next : drop i fs ≡ get_or fs i no_field ∷ drop (i + 1) fs = rw add-one (drop-cons fs i no_field there) in
-    next ∙ ap (λ h. h ∷ drop (i + 1) fs) (sym own)
+use Rattle.reference_pass.proofs.Fields.{came}
+use Rattle.reference_pass.proofs.field.read_any_field.Goals as goal
 
 pub identity_of_field-requires-clause-names : goal.identity_of_field-requires-clause-names
 identity_of_field-requires-clause-names c =
