@@ -1,3 +1,4 @@
 pub mod Exactness
 pub mod Apart
 pub mod Joins
+pub mod Distinct

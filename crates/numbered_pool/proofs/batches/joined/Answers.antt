@@ -3,7 +3,7 @@ use Rattle.std.proofs.lemmas.Iterator.Adapters.{YieldsList-from_vec}
 use Rattle.std.proofs.lemmas.Iterator.Consumers.{YieldsList-from_enumerate, YieldsList-end}
 use Rattle.joined_files.specs.Joining.{files_joined, joined_all}
 use Rattle.numbered_pool.specs.Batches.{batch_of, called}
-use Rattle.numbered_pool.proofs.batches.batch_of.Goals as goal
+use Rattle.numbered_pool.proofs.batches.joined.Goals as goal
 
 -- pairs by their parts
 by-parts : {X : Type 0} (ps : List (ℕ × X)) → map (λ p. (p.0, p.1)) ps ≡ ps
