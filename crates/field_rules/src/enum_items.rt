@@ -11,10 +11,11 @@ ghost use Rattle.field_rules.specs.EnumValues.{values_faults};
 
 use crate::enum_tables::{value_names, value_numbers};
 use crate::enum_values::{allows_alias, check_values};
-use crate::{ListPlace, identity, identity_beside};
+use crate::identities::{Beside, front, identity, identity_of_value};
+use crate::inner_names::InnerNames;
 use plain_data::Items;
 use pool_types::{EnumDescriptorInner, EnumValueDescriptorInner};
-use proto_types::{EnumDescriptorProto, tag};
+use proto_types::EnumDescriptorProto;
 use record_walk::{Faults, Place};
 use std::alloc::{AllocError, Global};
 
@@ -79,14 +80,14 @@ fn read_values(
     ensures begin { IfOk result (λ items. All (λ v. BeginsAtBoundary v.id) items.items) }
 {
     let values = enumeration.value.as_slice();
+    let beside = Beside {
+        place,
+        around: front(place.full_name, enumeration.name()),
+    };
+    let mut names = InnerNames::beside(alloc, beside.around, values)?;
     let mut items = Vec::with_capacity(alloc, values.len())?;
-    let own_name = enumeration.name();
     for (position, value) in values.iter().enumerate() {
-        let at = ListPlace {
-            tag: tag::enum_::VALUE,
-            position,
-        };
-        let id = identity_beside(alloc, place, own_name, at, value.name())?;
+        let id = identity_of_value(&mut names, beside, position, value)?;
         // Room first, so that an item is made where it stays.
         items.reserve(1)?;
         items.push_reserved(EnumValueDescriptorInner {

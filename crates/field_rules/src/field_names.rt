@@ -5,12 +5,10 @@ ghost use Rattle.record_walk.specs.Counts.{fits_list};
 ghost use Rattle.proto_types.specs.Readers.{text_of};
 ghost use Rattle.field_rules.specs.Maps.{keyed};
 
+use crate::named::{FEW, list_bytes};
 use plain_data::NameList;
 use proto_types::FieldDescriptorProto;
 use std::alloc::{AllocError, Global};
-
-/// How few names stand by themselves in a list.
-const FEW: usize = 64;
 
 /// The name of each field, with its position.
 pub(crate) fn name_list(
@@ -20,13 +18,7 @@ pub(crate) fn name_list(
     requires { fits_list fields.now ≡ true }
     ensures { IfOk result (λ names. names ≡ keyed (λ f. Some (text_of f.name)) fields.now) }
 {
-    // Few names stand by themselves, so that their bytes need not be counted.
-    let bytes = if fields.len() <= FEW {
-        0
-    } else {
-        name_bytes(fields)
-    };
-    let mut names = NameList::with_capacity(alloc, fields.len(), bytes)?;
+    let mut names = NameList::with_capacity(alloc, fields.len(), list_bytes(fields))?;
     for (position, field) in fields.iter().enumerate() {
         names.push(field.name(), position as u32)?;
     }
@@ -41,7 +33,12 @@ pub(crate) fn json_name_list(
     requires { fits_list fields.now ≡ true }
     ensures { IfOk result (λ names. names ≡ keyed (λ f. f.json_name) fields.now) }
 {
-    let (given, bytes) = json_names_given(fields);
+    let given = json_names_given(fields);
+    let bytes = if given <= FEW {
+        0
+    } else {
+        json_name_bytes(fields)
+    };
     let mut names = NameList::with_capacity(alloc, given, bytes)?;
     for (position, field) in fields.iter().enumerate() {
         push_json_name(&mut names, field, position as u32)?;
@@ -64,23 +61,24 @@ fn push_json_name(
     }
 }
 
-/// How many bytes the names of fields have in all.
-pub(crate) fn name_bytes(fields: &[FieldDescriptorProto]) -> usize {
-    let mut bytes = 0usize;
+/// How many fields have a JSON name.
+fn json_names_given(fields: &[FieldDescriptorProto]) -> usize {
+    let mut given = 0usize;
     for field in fields {
-        bytes = bytes.saturating_add(field.name().len());
+        if field.json_name.is_some() {
+            given = given.saturating_add(1);
+        }
     }
-    bytes
+    given
 }
 
-/// How many fields have a JSON name, and how many bytes these have in all.
-fn json_names_given(fields: &[FieldDescriptorProto]) -> (usize, usize) {
-    let (mut given, mut bytes) = (0usize, 0usize);
+/// How many bytes the JSON names of fields have in all.
+fn json_name_bytes(fields: &[FieldDescriptorProto]) -> usize {
+    let mut bytes = 0usize;
     for field in fields {
         if let Some(name) = &field.json_name {
-            given = given.saturating_add(1);
             bytes = bytes.saturating_add(name.as_str().len());
         }
     }
-    (given, bytes)
+    bytes
 }

@@ -3,17 +3,19 @@ ghost use Rattle.std.specs.Str.{IsCharBoundary};
 ghost use Rattle.proto_types.specs.Names.{join};
 ghost use Rattle.proto_types.specs.Readers.{text_of};
 ghost use Rattle.proto_types.specs.declared.records.field.FieldDescriptorProto.{FieldDescriptorProto};
+ghost use Rattle.proto_types.specs.declared.records.enumeration.EnumValueDescriptorProto.{EnumValueDescriptorProto};
+ghost use Rattle.proto_types.specs.declared.tag.enum_.TheConstants.{VALUE};
 ghost use Rattle.proto_types.specs.declared.tag.message.TheConstants.{FIELD};
 ghost use Rattle.record_walk.specs.FullNames.{EndsWith};
 ghost use Rattle.proto_types.specs.Paths.{entry_path};
 ghost use Rattle.field_rules.specs.Identities.{named_at, before_ending};
-ghost use Rattle.field_rules.specs.InnerNames.{AreNamesOf};
+ghost use Rattle.field_rules.specs.InnerNames.{AreNamesBeside, AreNamesOf};
 ghost use Rattle.field_rules.specs.NamesBegin.{BeginsAtBoundary};
 
 use crate::inner_names::InnerNames;
 use plain_data::{Path, Text};
 use pool_types::Identity;
-use proto_types::{FieldDescriptorProto, join_text, joined_len, tag};
+use proto_types::{EnumValueDescriptorProto, FieldDescriptorProto, join_text, joined_len, tag};
 use record_walk::Place;
 use std::alloc::{AllocError, Global};
 
@@ -105,33 +107,43 @@ pub fn identity_of_field(
     })
 }
 
-/// Where an entry of a list of a declaration stands that is named beside it. The declaration's own
-/// name ends its full name. The entry's position is below 2 to the 31st. The name begins in the
-/// full name where a character begins.
+/// An enum beside which its values are named.
+#[derive(Clone, Copy)]
+pub(crate) struct Beside<'a> {
+    pub(crate) place: Place<'a, 'a>,
+    /// The text before its name in its full name.
+    pub(crate) around: &'a str,
+}
+
+/// Where the next value of an enum stands, whose full name is taken. Its position is below 2 to the
+/// 31st. The name begins in the full name where a character begins.
 ///
 /// # Errors
 /// `AllocError` where memory was refused.
 #[inline(always)]
-pub fn identity_beside(
-    alloc: Global,
-    place: Place,
-    own_name: &str,
-    at: ListPlace,
-    name: &str,
+pub(crate) fn identity_of_value(
+    names: &mut InnerNames,
+    enumeration: Beside,
+    position: usize,
+    value: &EnumValueDescriptorProto,
 ) -> Result<Identity, AllocError>
-    requires position { at.position < 2 ^ 31 }
-    requires ends { EndsWith place.full_name.now own_name.now }
-    ensures id { IfOk result (λ id. id ≡ named_at place.entry.file
-        (entry_path place.entry.path.now at.tag at.position)
-        (before_ending place.entry.full_name.now own_name.now ++ name.now) name.now) }
+    requires position { position < 2 ^ 31 }
+    requires names { (rest : List EnumValueDescriptorProto)
+        × AreNamesBeside names.old enumeration.around.now (value.now ∷ rest) }
+    ensures id { IfOk result (λ id. id ≡ named_at enumeration.entry.place.file
+        (entry_path enumeration.entry.place.path.now VALUE position)
+        (enumeration.entry.around.now ++ text_of value.now.name) (text_of value.now.name)) }
     ensures begins { IfOk result (λ id. BeginsAtBoundary id) }
+    ensures names { OnOk result ((rest : List EnumValueDescriptorProto)
+        → AreNamesBeside names.old enumeration.entry.around.now (value.now ∷ rest)
+        → AreNamesBeside names.new enumeration.entry.around.now rest) }
 {
-    let around = front(place.full_name, own_name);
+    let tag = tag::enum_::VALUE;
     Ok(Identity {
-        file: place.file,
-        path: Path::below(alloc, place.path, at.tag, at.position as i32)?,
-        full_name: Text::concatenated(alloc, around, "", name)?,
-        name_index: around.len(),
+        file: enumeration.place.file,
+        path: Path::below(names.alloc, enumeration.place.path, tag, position as i32)?,
+        full_name: names.next_beside(enumeration.around, value)?,
+        name_index: enumeration.around.len(),
     })
 }
 
@@ -145,7 +157,7 @@ fn index_inside(scope: &str, name: &str) -> usize
 }
 
 /// The text before its ending.
-fn front<'a>(text: &'a str, ending: &str) -> &'a str
+pub(crate) fn front<'a>(text: &'a str, ending: &str) -> &'a str
     requires { EndsWith text.now ending.now }
     ensures { result.now ≡ before_ending text.now ending.now }
 {

@@ -1,16 +1,20 @@
-ghost use Rattle.std.specs.Prelude.{◌≡◌, ◌∷◌, ◌++◌, List, IfOk, OnOk, string_bytes};
+ghost use Rattle.std.specs.Prelude.{◌≡◌, ◌∷◌, ◌++◌, List, IfOk, IfSome, OnOk, length};
+ghost use Rattle.std.specs.Prelude.{string_bytes};
+ghost use Rattle.std.specs.List.{flat_map};
+ghost use Rattle.std.specs.Str.{IsCharBoundary};
 ghost use Rattle.proto_types.specs.Names.{join};
 ghost use Rattle.proto_types.specs.Readers.{text_of};
+ghost use Rattle.proto_types.specs.declared.records.enumeration.EnumValueDescriptorProto.{EnumValueDescriptorProto};
 ghost use Rattle.proto_types.specs.declared.records.field.FieldDescriptorProto.{FieldDescriptorProto};
-ghost use Rattle.field_rules.specs.InnerNames.{AreNamesOf, names_behind};
+ghost use Rattle.field_rules.specs.InnerNames.{AreNamesBeside, AreNamesOf};
 
-use crate::field_names::name_bytes;
+use crate::named::{Named, name_bytes};
 use plain_data::{SharedText, Text};
-use proto_types::{FieldDescriptorProto, join_text, joined_len, push_joined};
+use proto_types::{EnumValueDescriptorProto, FieldDescriptorProto, join_text, joined_len};
 use std::alloc::{AllocError, Global};
 
-/// The full names of the fields of a message, which are taken one after another. Where many of them
-/// are long, they share their memory.
+/// The full names of the fields of a message, or of the values of an enum, which are taken one
+/// after another. Where many of them are long, they share their memory.
 #[derive(Drop)]
 pub struct InnerNames {
     pub(crate) alloc: Global,
@@ -36,8 +40,36 @@ impl InnerNames {
     ) -> Result<InnerNames, AllocError>
         ensures { IfOk result (λ names. AreNamesOf names scope.now fields.now) }
     {
-        let shared = match shared_len(scope, fields) {
-            Some(len) => Some(SharedText::new(full_names(alloc, scope, fields, len)?)?),
+        let dot = if scope.is_empty() { "" } else { "." };
+        InnerNames::behind(alloc, (scope, dot), fields)
+    }
+
+    /// The full names of the values of an enum, which stand beside it: behind the text that is
+    /// around it.
+    ///
+    /// # Errors
+    /// `AllocError` where memory was refused.
+    pub(crate) fn beside(
+        alloc: Global,
+        around: &str,
+        values: &[EnumValueDescriptorProto],
+    ) -> Result<InnerNames, AllocError>
+        ensures { IfOk result (λ names. AreNamesBeside names around.now values.now) }
+    {
+        InnerNames::behind(alloc, (around, ""), values)
+    }
+
+    /// The names of records behind two texts.
+    fn behind<R: Named>(
+        alloc: Global,
+        front: (&str, &str),
+        records: &[R],
+    ) -> Result<InnerNames, AllocError>
+        ensures { IfOk result (λ names. IfSome names.shared (λ text. text
+            ≡ flat_map (λ r. front.entry.0.now ++ front.entry.1.now ++ R.own_name r) records.now)) }
+    {
+        let shared = match shared_len(front.0, records) {
+            Some(len) => Some(SharedText::new(full_names(alloc, front, records, len)?)?),
             None => None,
         };
         Ok(InnerNames { alloc, shared })
@@ -62,33 +94,62 @@ impl InnerNames {
             None => join_text(self.alloc, scope, name),
         }
     }
+
+    /// Takes the full name of the next value, whose own name begins where a character begins.
+    ///
+    /// # Errors
+    /// `AllocError` where memory was refused.
+    #[inline(always)]
+    pub(crate) fn next_beside(
+        &mut self,
+        around: &str,
+        value: &EnumValueDescriptorProto,
+    ) -> Result<Text, AllocError>
+        requires { (rest : List EnumValueDescriptorProto)
+            × AreNamesBeside self.old around.now (value.now ∷ rest) }
+        ensures name { IfOk result (λ name. name ≡ around.now ++ text_of value.now.name) }
+        ensures begins { IfOk result (λ name. IsCharBoundary name (length around.now)) }
+        ensures rest { OnOk result ((rest : List EnumValueDescriptorProto)
+            → AreNamesBeside self.old around.now (value.now ∷ rest)
+            → AreNamesBeside self.new around.now rest) }
+    {
+        let name = value.name();
+        match &mut self.shared {
+            Some(names) => names.cut(around.len() + name.len()),
+            None => Text::concatenated(self.alloc, around, "", name),
+        }
+    }
 }
 
-/// The full names of fields in a scope, one behind another, which have so many bytes in all.
-fn full_names(
+/// The names of records behind two texts, one full name behind another, which have so many bytes in
+/// all.
+fn full_names<R: Named>(
     alloc: Global,
-    scope: &str,
-    fields: &[FieldDescriptorProto],
+    front: (&str, &str),
+    records: &[R],
     len: usize,
 ) -> Result<String, AllocError>
-    ensures { IfOk result (λ text. string_bytes text ≡ names_behind scope.now fields.now) }
+    ensures { IfOk result (λ text. string_bytes text
+        ≡ flat_map (λ r. front.entry.0.now ++ front.entry.1.now ++ R.own_name r) records.now) }
 {
     let mut text = String::with_capacity(alloc, len)?;
-    for field in fields {
-        push_joined(&mut text, scope, field.name())?;
+    for record in records {
+        text.push_str(front.0)?;
+        text.push_str(front.1)?;
+        text.push_str(record.own_name())?;
     }
     Ok(text)
 }
 
-/// About how many bytes the full names of fields in a scope have in all; none where they are few,
-/// or mostly short.
-fn shared_len(scope: &str, fields: &[FieldDescriptorProto]) -> Option<usize> {
-    if fields.len() <= FEW || scope.len() <= SHORT / 2 {
+/// About how many bytes the full names of records around which a text stands have in all; none
+/// where they are few, or mostly short.
+fn shared_len<R: Named>(around: &str, records: &[R]) -> Option<usize> {
+    if records.len() <= FEW || around.len() <= SHORT / 2 {
         return None;
     }
-    let scopes = fields.len().saturating_mul(scope.len().saturating_add(1));
-    let len = scopes.saturating_add(name_bytes(fields));
-    if len / fields.len() > SHORT {
+    let fronts = records.len().saturating_mul(around.len().saturating_add(1));
+    let len = fronts.saturating_add(name_bytes(records));
+    if len / records.len() > SHORT {
         Some(len)
     } else {
         None
