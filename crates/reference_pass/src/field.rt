@@ -1,4 +1,4 @@
-ghost use Rattle.std.specs.Prelude.{◌≡◌, ◌+◌, ◌<◌, ◌^◌, ◌++◌, true, IfOk, OnOk, length, drop};
+ghost use Rattle.std.specs.Prelude.{◌≡◌, ◌+◌, ◌<◌, ◌^◌, true, IfOk, OnOk, length, drop};
 ghost use Rattle.std.specs.Prelude.{List, [], IfSome, get_or, unwrap_or};
 ghost use Rattle.record_walk.specs.Shown.{Shown};
 ghost use Rattle.proto_types.specs.declared.file.FileDescriptorProto.{FileDescriptorProto};
@@ -11,8 +11,8 @@ ghost use Rattle.record_walk.specs.Protos.{of_field, of_message};
 ghost use Rattle.field_rules.specs.Bounds.{AreRangesOf};
 ghost use Rattle.field_rules.specs.InnerNames.{AreNamesOf};
 ghost use Rattle.reference_pass.specs.SecondPass.{field_record_faults};
-ghost use Rattle.reference_pass.specs.Defaults.{field_default, field_default_faults};
-ghost use Rattle.reference_pass.specs.Types.{field_kind, type_faults};
+ghost use Rattle.reference_pass.specs.Defaults.{field_default};
+ghost use Rattle.reference_pass.specs.Types.{field_kind};
 ghost use Rattle.reference_pass.specs.Plain.{IsPlain, field_of, field_shown, record_of};
 ghost use Rattle.field_rules.specs.Numbers.{field_number_faults};
 ghost use Rattle.reference_pass.specs.Items.{field_item};
@@ -186,12 +186,13 @@ fn check_field(
         (message_at of.now.owner.place of.now.owner.message.now, of.now.owner.message.now)
         (field_of of.now id.now position) (record_of of.now position))) }
 {
-    check_number(reading, of, id, position)?;
-    let (kind, default) = check_type(reading, of, id, position)?;
-    let oneofs = of.owner.message.oneof_decl.as_slice();
     let field = &of.owner.message.field.as_slice()[position];
+    let place = place_of(of.owner.place, id, position);
+    check_field_number(&mut reading.faults, of.owner, of.ranges, place, field)?;
+    let (kind, default) = type_and_default(reading, place, field)?;
+    let oneofs = of.owner.message.oneof_decl.as_slice();
     check_oneof_index(&mut reading.faults, oneofs, field)?;
-    Ok((kind, default))
+    Ok((kind.unwrap_or(KindIndex::Double), default))
 }
 
 /// Where the field of a message with a position stands that has an identity.
@@ -207,53 +208,6 @@ fn place_of<'a>(owner: Place, id: &'a Identity, position: usize) -> Place<'a, 'a
         path: id.path.as_slice(),
         full_name: id.full_name.as_str(),
     }
-}
-
-/// Appends to `reading` what the number of a field of a message breaks.
-fn check_number(
-    reading: &mut Reading,
-    of: &FieldOwner,
-    id: &Identity,
-    position: usize,
-) -> Result<(), AllocError>
-    requires short { lists_fit (of_message of.now.owner.message.now) ≡ true }
-    requires ranges { AreRangesOf of.now.ranges.now of.now.owner.message.now }
-    requires there { position < length (out-DescriptorProto of.now.owner.message.now).field }
-    ensures { OnOk result (ReadingTells reading.old reading.new
-        (field_number_faults (setting_of reading.old).files
-        (message_at of.now.owner.place of.now.owner.message.now) of.now.owner.message.now
-        (field_of of.now id.now position) (record_of of.now position))) }
-{
-    let field = &of.owner.message.field.as_slice()[position];
-    let place = place_of(of.owner.place, id, position);
-    check_field_number(&mut reading.faults, of.owner, of.ranges, place, field)
-}
-
-/// The kind of the type of a field of a message and its default value, as `check_field` answers
-/// them. What these break is appended to `reading`.
-fn check_type(
-    reading: &mut Reading,
-    of: &FieldOwner,
-    id: &Identity,
-    position: usize,
-) -> Result<(KindIndex, Option<DefaultValue>), AllocError>
-    requires short { lists_fit (of_message of.now.owner.message.now) ≡ true }
-    requires there { position < length (out-DescriptorProto of.now.owner.message.now).field }
-    ensures kind { IfOk result (λ t. t.0 ≡ unwrap_or
-        (field_kind (setting_of reading.old) (field_of of.now id.now position)
-        (record_of of.now position)) Double) }
-    ensures default { IfOk result (λ t. t.1 ≡ field_default (setting_of reading.old)
-        (field_of of.now id.now position) (record_of of.now position)) }
-    ensures faults { OnOk result (ReadingTells reading.old reading.new
-        (type_faults (setting_of reading.old) (field_of of.now id.now position)
-        (record_of of.now position)
-        ++ field_default_faults (setting_of reading.old) (field_of of.now id.now position)
-        (record_of of.now position))) }
-{
-    let field = &of.owner.message.field.as_slice()[position];
-    let place = place_of(of.owner.place, id, position);
-    let (kind, default) = type_and_default(reading, place, field)?;
-    Ok((kind.unwrap_or(KindIndex::Double), default))
 }
 
 /// Whether the file with an index is written in proto3.
