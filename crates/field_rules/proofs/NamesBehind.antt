@@ -1,11 +1,12 @@
 -- Full names that stand one behind another.
-use Rattle.std.proofs.Common.{◌≡◌, ◌==◌, ◌+◌, ℕ, true, false, List, [], ◌∷◌, ◌++◌, length, length-append, append_assoc, take, eqb-true, sym, ap, subst, ◌∙◌, arith}
+use Rattle.std.proofs.Common.{◌≡◌, ◌==◌, ◌+◌, ℕ, Bool, true, false, not, List, [], ◌∷◌, ◌++◌, length, length-append, append_assoc, take, eqb-true, refl, sym, ap, subst, ◌∙◌, arith}
 use Rattle.std.proofs.lemmas.List.{nil_from_length}
 use Rattle.std.proofs.Math.Seq.{take-append_seam}
 use Rattle.std.proofs.lemmas.Str.{IsUtf8-append, IsUtf8-from_ascii}
 use Rattle.std.proofs.lemmas.Str.Ascii.{IsAscii-cons, IsAscii-nil}
 use Rattle.std.specs.Str.{IsUtf8}
 use Rattle.proto_types.specs.Names.{join}
+use Rattle.field_rules.specs.InnerNames.{dot}
 
 -- a full name is a text
 pub join-IsUtf8 : (scope name : List ℕ) → IsUtf8 scope → IsUtf8 name → IsUtf8 (join scope name)
@@ -24,11 +25,9 @@ both-cut texts first second rest are = first-cut texts (first ++ second) rest (l
 
 -- the full name of a name in a scope stands behind the scope, and behind a dot where the scope is
 -- not empty
-pub behind-none : (scope dot name : List ℕ) → (length scope == 0) ≡ true → dot ≡ [] → scope ++ dot ++ name ≡ join scope name
-behind-none scope dot name empty is =
-    let none : scope ≡ [] = nil_from_length scope (eqb-true (length scope) 0 empty) in
-    subst (λ s. s ++ dot ++ name ≡ join s name) (sym none) (ap (λ d. d ++ name) is)
-
-pub behind-dot : (scope dot name : List ℕ) → (length scope == 0) ≡ false → dot ≡ 46 ∷ [] → scope ++ dot ++ name ≡ join scope name
-behind-dot [] dot name named is = absurd (cc)
-behind-dot (c ∷ cs) dot name named is = ap (λ d. (c ∷ cs) ++ d ++ name) is ∙ append_assoc (c ∷ cs) (46 ∷ []) name
+pub behind-dot : (scope name : List ℕ) (is_empty : Bool) → is_empty ≡ (length scope == 0) → scope ++ dot (not is_empty) ++ name ≡ join scope name
+behind-dot scope name true is =
+    let none : scope ≡ [] = nil_from_length scope (eqb-true (length scope) 0 (sym is)) in
+    subst (λ s. s ++ [] ++ name ≡ join s name) (sym none) refl
+behind-dot [] name false is = absurd (cc)
+behind-dot (c ∷ cs) name false is = append_assoc (c ∷ cs) (46 ∷ []) name

@@ -1,5 +1,5 @@
 -- The full names of the fields of a message, and of the values of an enum, one behind another.
-use Rattle.std.specs.Prelude.{◌≡◌, ◌++◌, ℕ, List, IfSome}
+use Rattle.std.specs.Prelude.{◌≡◌, ◌++◌, ℕ, Bool, true, false, List, [], ◌∷◌, IfSome}
 use Rattle.std.specs.List.{flat_map}
 use Rattle.proto_types.specs.Names.{join}
 use Rattle.proto_types.specs.Readers.{text_of}
@@ -22,3 +22,8 @@ names_beside around values = flat_map (λ v. around ++ text_of v.name) values
 -- names that share their memory are those of values behind the text around their enum
 abbrev pub AreNamesBeside : InnerNames → List ℕ → List EnumValueDescriptorProto → Type 0
 AreNamesBeside names around values = IfSome names.shared (λ text. text ≡ names_beside around values)
+
+-- the dot behind a scope, if it has one
+abbrev pub dot : Bool → List ℕ
+dot true = 46 ∷ []
+dot false = []

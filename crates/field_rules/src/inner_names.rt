@@ -6,7 +6,7 @@ ghost use Rattle.proto_types.specs.Names.{join};
 ghost use Rattle.proto_types.specs.Readers.{text_of};
 ghost use Rattle.proto_types.specs.declared.records.enumeration.EnumValueDescriptorProto.{EnumValueDescriptorProto};
 ghost use Rattle.proto_types.specs.declared.records.field.FieldDescriptorProto.{FieldDescriptorProto};
-ghost use Rattle.field_rules.specs.InnerNames.{AreNamesBeside, AreNamesOf};
+ghost use Rattle.field_rules.specs.InnerNames.{AreNamesBeside, AreNamesOf, dot};
 
 use crate::named::{Named, name_bytes};
 use plain_data::{SharedText, Text};
@@ -40,8 +40,8 @@ impl InnerNames {
     ) -> Result<InnerNames, AllocError>
         ensures { IfOk result (λ names. AreNamesOf names scope.now fields.now) }
     {
-        let dot = if scope.is_empty() { "" } else { "." };
-        InnerNames::behind(alloc, (scope, dot), fields)
+        let has_dot = !scope.is_empty();
+        InnerNames::behind(alloc, (scope, has_dot), fields)
     }
 
     /// The full names of the values of an enum, which stand beside it: behind the text that is
@@ -56,17 +56,17 @@ impl InnerNames {
     ) -> Result<InnerNames, AllocError>
         ensures { IfOk result (λ names. AreNamesBeside names around.now values.now) }
     {
-        InnerNames::behind(alloc, (around, ""), values)
+        InnerNames::behind(alloc, (around, false), values)
     }
 
-    /// The names of records behind two texts.
+    /// The names of records behind a text, and maybe a dot.
     fn behind<R: Named>(
         alloc: Global,
-        front: (&str, &str),
+        front: (&str, bool),
         records: &[R],
     ) -> Result<InnerNames, AllocError>
         ensures { IfOk result (λ names. IfSome names.shared (λ text. text
-            ≡ flat_map (λ r. front.entry.0.now ++ front.entry.1.now ++ R.own_name r) records.now)) }
+            ≡ flat_map (λ r. front.entry.0.now ++ dot front.entry.1 ++ R.own_name r) records.now)) }
     {
         let shared = match shared_len(front.0, records) {
             Some(len) => Some(SharedText::new(full_names(alloc, front, records, len)?)?),
@@ -121,24 +121,32 @@ impl InnerNames {
     }
 }
 
-/// The names of records behind two texts, one full name behind another, which have so many bytes in
-/// all.
+/// The names of records behind a text, and maybe a dot, one full name behind another, which have so
+/// many bytes in all.
 fn full_names<R: Named>(
     alloc: Global,
-    front: (&str, &str),
+    front: (&str, bool),
     records: &[R],
     len: usize,
 ) -> Result<String, AllocError>
     ensures { IfOk result (λ text. string_bytes text
-        ≡ flat_map (λ r. front.entry.0.now ++ front.entry.1.now ++ R.own_name r) records.now) }
+        ≡ flat_map (λ r. front.entry.0.now ++ dot front.entry.1 ++ R.own_name r) records.now) }
 {
     let mut text = String::with_capacity(alloc, len)?;
     for record in records {
-        text.push_str(front.0)?;
-        text.push_str(front.1)?;
+        push_front(&mut text, front)?;
         text.push_str(record.own_name())?;
     }
     Ok(text)
+}
+
+/// Puts a text, and maybe a dot, behind others.
+fn push_front(text: &mut String, front: (&str, bool)) -> Result<(), AllocError>
+    ensures { OnOk result (string_bytes text.new
+        ≡ string_bytes text.old ++ front.entry.0.now ++ dot front.entry.1) }
+{
+    text.push_str(front.0)?;
+    if front.1 { text.push('.') } else { Ok(()) }
 }
 
 /// About how many bytes the full names of records around which a text stands have in all; none

@@ -1,5 +1,6 @@
 ghost use Rattle.std.specs.Prelude.{◌≡◌, ◌+◌, ◌<◌, ◌^◌, true, IfOk, OnOk, length, drop};
-ghost use Rattle.std.specs.Prelude.{List, [], IfSome, get_or, unwrap_or};
+ghost use Rattle.std.specs.Prelude.{◌++◌, ◌∷◌, List, [], IfSome, get_or, unwrap_or};
+ghost use Rattle.std.specs.List.{All};
 ghost use Rattle.record_walk.specs.Shown.{Shown};
 ghost use Rattle.proto_types.specs.declared.file.FileDescriptorProto.{FileDescriptorProto};
 ghost use Rattle.proto_types.specs.declared.records.field.FieldDescriptorProto.{FieldDescriptorProto};
@@ -44,14 +45,16 @@ pub(crate) struct FieldOwner<'a> {
     pub(crate) is_proto3: bool,
 }
 
-/// The item of the field of a message with a position, whose full name comes next. What the field
-/// breaks by itself is appended to `reading`: its number, its type, its default value, its oneof.
-pub(crate) fn read_field(
+/// Puts the item of the field of a message with a position behind others; its full name comes
+/// next. What the field breaks by itself is appended to `reading`: its number, its type, its
+/// default value, its oneof.
+pub(crate) fn push_field(
+    items: &mut Vec<FieldDescriptorInner>,
     reading: &mut Reading,
     of: &FieldOwner,
     names: &mut InnerNames,
     position: usize,
-) -> Result<FieldDescriptorInner, AllocError>
+) -> Result<(), AllocError>
     requires short { lists_fit (of_message of.now.owner.message.now) ≡ true }
     requires ranges { AreRangesOf of.now.ranges.now of.now.owner.message.now }
     requires proto3 { of.now.is_proto3
@@ -59,13 +62,14 @@ pub(crate) fn read_field(
     requires there { position < length (out-DescriptorProto of.now.owner.message.now).field }
     requires names { AreNamesOf names.old of.now.owner.place.full_name.now
         (drop position (out-DescriptorProto of.now.owner.message.now).field) }
-    ensures item { IfOk result (λ item. item
-        ≡ field_item (setting_of reading.old)
+    ensures items { OnOk result (items.new.items ≡ items.old.items
+        ++ field_item (setting_of reading.old)
         (out-DescriptorProto of.now.owner.message.now).oneof_decl
         (field_at (inside_of of.now.owner.place) position
         (get_or (out-DescriptorProto of.now.owner.message.now).field position no_field))
-        (get_or (out-DescriptorProto of.now.owner.message.now).field position no_field)) }
-    ensures begins { IfOk result (λ item. BeginsAtBoundary item.id) }
+        (get_or (out-DescriptorProto of.now.owner.message.now).field position no_field) ∷ []) }
+    ensures begin { OnOk result (All (λ f. BeginsAtBoundary f.id) items.old.items
+        → All (λ f. BeginsAtBoundary f.id) items.new.items) }
     ensures names { OnOk result (AreNamesOf names.new of.now.owner.place.full_name.now
         (drop (position + 1) (out-DescriptorProto of.now.owner.message.now).field)) }
     ensures faults { OnOk result (ReadingTells reading.old reading.new
@@ -75,15 +79,18 @@ pub(crate) fn read_field(
         (get_or (out-DescriptorProto of.now.owner.message.now).field position no_field))
         (get_or (out-DescriptorProto of.now.owner.message.now).field position no_field))) }
 {
+    // Room first, so that an item is made where it stays.
+    items.reserve(1)?;
     let field = &of.owner.message.field.as_slice()[position];
     let Some(kind) = free_kind(reading, of, field) else {
-        return read_any_field(reading, of, names, position);
+        items.push_reserved(read_any_field(reading, of, names, position)?);
+        return Ok(());
     };
     let id = identity_of_field(names, of.owner.place, position, field)?;
     let json_name = duplicate_option(reading.faults.alloc, &field.json_name)?;
     let oneofs = of.owner.message.oneof_decl.as_slice();
     check_oneof_index(&mut reading.faults, oneofs, field)?;
-    Ok(FieldDescriptorInner {
+    items.push_reserved(FieldDescriptorInner {
         id,
         number: item_number(field.number()),
         json_name,
@@ -93,7 +100,8 @@ pub(crate) fn read_field(
         supports_presence: supports_presence(of.is_proto3, kind, field),
         cardinality: cardinality_of(field.label()),
         default: None,
-    })
+    });
+    Ok(())
 }
 
 /// The kind of a field of a message whose number is free, and whose type and default value break
@@ -112,7 +120,8 @@ fn free_kind(reading: &Reading, of: &FieldOwner, field: &FieldDescriptorProto) -
     plain_kind(reading, of.owner.place.file, field)
 }
 
-/// Does what `read_field` does, of any field.
+/// The item of the field of a message with a position, whose full name comes next. What the field
+/// breaks by itself is appended to `reading`.
 // Not inlined, since few fields come to it.
 #[inline(never)]
 fn read_any_field(

@@ -14,7 +14,7 @@ ghost use Rattle.record_walk.specs.Place.{inside_of, message_at};
 ghost use Rattle.pool_types.specs.Syntaxes.{is_proto3, syntax_at};
 ghost use Rattle.reference_pass.specs.Reading.{ReadingTells, setting_of};
 
-use crate::field::{FieldOwner, is_proto3, read_field};
+use crate::field::{FieldOwner, is_proto3, push_field};
 use crate::reading::Reading;
 use field_rules::{
     FieldMaps, InnerNames, ListPlace, MessageRanges, Owner, identity, identity_inside, members,
@@ -103,9 +103,7 @@ fn read_fields(
     let mut names = InnerNames::new(alloc, of.owner.place.full_name, fields)?;
     let mut items = Vec::with_capacity(alloc, fields.len())?;
     for position in 0..fields.len() {
-        // Room first, so that an item is made where it stays.
-        items.reserve(1)?;
-        items.push_reserved(read_field(reading, &of, &mut names, position)?);
+        push_field(&mut items, reading, &of, &mut names, position)?;
         maps.insert(&mut reading.faults, &of.owner, position)?;
     }
     Ok(items)

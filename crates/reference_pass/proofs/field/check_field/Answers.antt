@@ -4,7 +4,6 @@ use Rattle.pool_types.specs.declared.kinds.KindIndex.TheVariants.{Double}
 use Rattle.proto_types.specs.Field.{no_field}
 use Rattle.proto_types.specs.declared.records.field.FieldDescriptorProto.{FieldDescriptorProto}
 use Rattle.proto_types.specs.declared.message.DescriptorProto.{out-DescriptorProto}
-use Rattle.record_walk.specs.Shown.{Shown}
 use Rattle.field_rules.specs.Oneofs.{oneof_faults}
 use Rattle.field_rules.specs.Numbers.{field_number_faults}
 use Rattle.record_walk.specs.Place.{message_at}

@@ -1,7 +1,5 @@
 use Rattle.std.proofs.lemmas.Grind.{common_steps}
 use Rattle.std.proofs.Common.{◌≡◌, List, ◌<◌, length, get_or, subst, ◌++◌, ◌∷◌, [], ap, ◌∙◌, sym, refl, take, arith}
-use Rattle.std.proofs.lemmas.List.Elements.{All-push}
-use Rattle.std.specs.List.{All}
 use Rattle.proto_types.specs.Field.{no_field}
 use Rattle.proto_types.specs.declared.records.field.FieldDescriptorProto.{FieldDescriptorProto}
 use Rattle.proto_types.specs.declared.message.DescriptorProto.{out-DescriptorProto}
@@ -13,7 +11,6 @@ use Rattle.reference_pass.specs.Items.{field_item}
 use Rattle.pool_types.specs.Syntaxes.{is_proto3, syntax_at}
 use Rattle.reference_pass.specs.Reading.{setting_of}
 use Rattle.reference_pass.specs.Setting.{Setting}
-use Rattle.field_rules.specs.NamesBegin.{BeginsAtBoundary}
 use Rattle.record_walk.specs.Place.{field_at, inside_of, message_at}
 use Rattle.field_rules.proofs.Each.{each-next}
 use Rattle.reference_pass.proofs.Entries.{found-again}
@@ -21,8 +18,8 @@ use Rattle.reference_pass.proofs.Readings.{reads-as, reads-next, reads-told, rea
 use Rattle.reference_pass.proofs.message.read_fields.Goals as goal
 
 -- the file is still of its syntax
-pub read_field-requires-clause-proto3 : goal.read_field-requires-clause-proto3
-read_field-requires-clause-proto3 c =
+pub push_field-requires-clause-proto3 : goal.push_field-requires-clause-proto3
+push_field-requires-clause-proto3 c =
     c.requires.proto3 ∙ sym (ap (λ (t : Setting). is_proto3 (syntax_at t.files c.args.of.owner.place.file)) (same-setting c.loop-position.invariant.faults))
 
 -- one more field is read, and entered
@@ -37,17 +34,14 @@ loop-position-preserved c =
     let below = subst (λ (xs : List FieldDescriptorProto). i < length xs) c.as_slice-fields.ensures c.loop-position-test.true in
     let is = found-again m.field i no_field in
     let so_far = c.loop-position.invariant.faults in
-    let own = c.in_ok-read_field.ensures.faults in
-    let item = c.in_ok-read_field.ensures.item ∙ ap (λ t. field_item t m.oneof_decl (field_at here i f) f) (same-setting so_far) in
-    let Begins : FieldDescriptorInner → Type 0 = λ g. BeginsAtBoundary g.id in
-    let pushed = c.push_reserved.ensures.items ∙ ap (λ items. items ++ c.in_ok-read_field.field-0 ∷ []) c.reserve.ensures.items in
+    let own = c.in_ok-push_field.ensures.faults in
+    let item : Setting → FieldDescriptorInner = λ t. field_item t m.oneof_decl (field_at here i f) f in
     record {
-      items = pushed ∙ (λ j. c.loop-position.invariant.items j ++ item j ∷ [])
+      items = c.in_ok-push_field.ensures.items ∙ (λ j. c.loop-position.invariant.items j ++ item (same-setting so_far j) ∷ [])
           ∙ sym (each-next (λ n g. field_item s m.oneof_decl (field_at here n g) g) m.field i f below is);
-      begin = subst (All Begins) (sym pushed)
-          (All-push Begins c.loop-position.items.items c.in_ok-read_field.field-0 c.loop-position.invariant.begin c.in_ok-read_field.ensures.begins);
+      begin = c.in_ok-push_field.ensures.begin c.loop-position.invariant.begin;
       maps = c.in_ok-insert.ensures.maps;
-      names = c.in_ok-read_field.ensures.names;
+      names = c.in_ok-push_field.ensures.names;
       faults = reads-next (λ t n g. field_faults t owner (field_at here n g) g) m.field i f below is so_far refl
           (reads-two own (reads-as (ap (λ t. duplicate_faults t.files owner.0.file owner.0.path (take i m.field) i f) (same-setting own)) (reads-told c.in_ok-insert.ensures.faults)));
     }
