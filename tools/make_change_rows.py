@@ -337,13 +337,33 @@ told(
     "messages-to-a-map",
     P3 + PAIR + message("repeated N a = 1;"),
     P3 + PAIR + message("map<string, int32> a = 1;"),
-    kind("m.M.a", 1, "message m.N", "message m.M.AEntry"),
+    kind("m.M.a", 1, "message m.N", "map entry m.M.AEntry"),
 )
 told(
     "map-to-messages",
     P3 + PAIR + message("map<string, int32> a = 1;"),
     P3 + PAIR + message("repeated N a = 1;"),
-    kind("m.M.a", 1, "message m.M.AEntry", "message m.N"),
+    kind("m.M.a", 1, "map entry m.M.AEntry", "message m.N"),
+)
+ENTRIES = message(
+    "message AEntry {",
+    "  optional string key = 1;",
+    "  optional int32 value = 2;",
+    "}",
+    "repeated AEntry a = 1;",
+)
+ONE_MAP = message("map<string, int32> a = 1;")
+told(
+    "messages-to-a-map-of-their-name",
+    P2 + ENTRIES,
+    P2 + ONE_MAP,
+    kind("m.M.a", 1, "message m.M.AEntry", "map entry m.M.AEntry"),
+)
+told(
+    "map-to-messages-of-its-name",
+    P2 + ONE_MAP,
+    P2 + ENTRIES,
+    kind("m.M.a", 1, "map entry m.M.AEntry", "message m.M.AEntry"),
 )
 told(
     "message-to-bytes",
@@ -394,7 +414,7 @@ told(
     P3 + message("map<string, int32> b = 1;"),
     Change(
         "field-kind",
-        "'m.M.b' (1): message m.M.AEntry became message m.M.BEntry",
+        "'m.M.b' (1): map entry m.M.AEntry became map entry m.M.BEntry",
         new_number(1),
         "m.M.b",
         "m.M.a",
@@ -516,7 +536,26 @@ told(
     P2 + message("optional int32 a = 1;", "reserved 3 to 4;"),
     Change("number-free", f"'m.M.b' (2): {FREE}", reserve(2), "m.M", "m.M.b"),
 )
-kept("field-removed-for-extensions", P2 + BOTH, P2 + message("optional int32 a = 1;", "extensions 2 to 9;"))
+told(
+    "field-removed-for-extensions",
+    P2 + BOTH,
+    P2 + message("optional int32 a = 1;", "extensions 2 to 9;"),
+    Change("number-free", f"'m.M.b' (2): {FREE}", reserve(2), "m.M", "m.M.b"),
+)
+UNRESERVED = "an older writer may have used it: keep it reserved"
+kept("reserved-ranges-come-together", P2 + message("reserved 2, 3;"), P2 + message("reserved 2 to 5;"))
+told(
+    "reserved-range-removed",
+    P2 + message("reserved 2 to 4;"),
+    P2 + message("reserved 2 to 3;"),
+    Change("reserved-removed", "'m.M' (2): reserved became not reserved", UNRESERVED, "m.M", "m.M"),
+)
+told(
+    "reserved-number-taken",
+    P2 + message("optional int32 a = 1;", "reserved 2;"),
+    P2 + BOTH,
+    Change("reserved-removed", "'m.M.b' (2): reserved became int32", UNRESERVED, "m.M.b", "m.M"),
+)
 kept("field-renamed", P2 + BOTH, P2 + BOTH.replace(" b ", " c "))
 kept("field-moved", P2 + BOTH, P2 + message("optional int32 b = 2;", "optional int32 a = 1;"))
 kept("field-added", P2 + message("optional int32 a = 1;"), P2 + BOTH)
@@ -548,7 +587,18 @@ told(
     EXTENDED + "message S {\n  extend M {\n    optional int32 x = 100;\n  }\n}\n",
     kind("m.S.x", 100, "int64", "int32"),
 )
-kept("extension-removed", EXTENDED + "extend M {\n  optional int64 x = 100;\n}\n", EXTENDED)
+told(
+    "extension-removed",
+    EXTENDED + "extend M {\n  optional int64 x = 100;\n}\n",
+    EXTENDED,
+    Change(
+        "number-free",
+        "'m.x' (100): int64 became no field, and its number is not reserved",
+        reserve(100),
+        "m.M",
+        "m.x",
+    ),
+)
 kept(
     "extension-becomes-a-field",
     EXTENDED + "extend M {\n  optional int32 x = 100;\n}\n",
@@ -763,7 +813,13 @@ at_level(
     "json-extension-removed",
     EXTENDED + "extend M {\n  optional int64 x = 100;\n}\n",
     EXTENDED,
-    gone("json", "field-removed", "field", "m.x", "m.M", REFUSED),
+    Change(
+        "number-free",
+        "'m.x' (100): int64 became no field, and its number is not reserved",
+        reserve(100),
+        "m.M",
+        "m.x",
+    ),
 )
 at_level(
     "json",
@@ -859,6 +915,7 @@ at_level("json", "json-message-removed", P2 + N + message(), P2 + message())
 
 # Code that is made of the schema.
 CODE = "code names it: keep it, and mark it as deprecated"
+WRITTEN = "what was written of it is not read: keep it, and mark it as deprecated"
 MISSING = "code goes by what it reads where nothing was written: leave it"
 OF_FILE = "code that is made of the file is another: leave it"
 at_level("json", "json-message-under-another-name", P2 + N + OF_N, P2 + O + OF_O)
@@ -905,14 +962,14 @@ at_level(
     "source-message-removed",
     P2 + N + message(),
     P2 + message(),
-    gone("source", "message-removed", "message", "m.N", FILE, CODE),
+    gone("wire", "message-removed", "message", "m.N", FILE, WRITTEN),
 )
 at_level(
     "source",
     "source-nested-message-removed",
     P2 + message("message N {}"),
     P2 + message(),
-    gone("source", "message-removed", "message", "m.M.N", FILE, CODE),
+    gone("wire", "message-removed", "message", "m.M.N", FILE, WRITTEN),
 )
 ROWS.append(
     Row(
@@ -923,7 +980,7 @@ ROWS.append(
             Change(
                 "message-removed",
                 "'m.N': no message became message",
-                CODE,
+                WRITTEN,
                 "m.N",
                 FILE,
                 "source",
@@ -1009,7 +1066,7 @@ at_level(
     "source-message-under-another-name",
     P2 + N + OF_N,
     P2 + O + OF_O,
-    gone("source", "message-removed", "message", "m.N", FILE, CODE),
+    gone("wire", "message-removed", "message", "m.N", FILE, WRITTEN),
     source("field-type", "message m.N", "message m.O", TYPE),
 )
 at_level(
@@ -1033,6 +1090,14 @@ at_level(
     P2 + message("optional string a = 1;"),
     source("field-default", "default value x", "no default value", MISSING),
 )
+FIRST = P2 + "enum E {\n  A = 1;\n  B = 2;\n}\n" + message("optional E a = 1;", "repeated E b = 2;")
+at_level(
+    "source",
+    "source-default-by-the-first-value",
+    FIRST,
+    FIRST.replace("  A = 1;\n  B = 2;\n", "  B = 2;\n  A = 1;\n"),
+    source("field-default", "first value m.A", "first value m.B", MISSING),
+)
 at_level(
     "source",
     "source-default-of-an-extension",
@@ -1054,7 +1119,7 @@ at_level(
     P3 + message(),
     P3.replace("package m", "package k") + message(),
     Change("file-package", "'m.proto': package m became package k", OF_FILE, FILE, FILE, "source"),
-    gone("source", "message-removed", "message", "m.M", FILE, CODE),
+    gone("wire", "message-removed", "message", "m.M", FILE, WRITTEN),
 )
 at_level(
     "source",
@@ -1091,7 +1156,7 @@ at_level(
     kind("m.M.a", 1, "int64", "int32"),
     between("json", "field-json", "m.M.b", "true or false", "number", FORMED),
     source("field-type", "int32", "int64", TYPE, "m.M.c"),
-    gone("source", "message-removed", "message", "m.N", FILE, CODE),
+    gone("wire", "message-removed", "message", "m.N", FILE, WRITTEN),
 )
 ROWS.append(
     Row(
@@ -1179,7 +1244,7 @@ def in_format(format_: str) -> None:
         kind("m.M.a", 1, "int64", "int32"),
         between("json", "field-json", "m.M.b", "true or false", "number", FORMED),
         source("field-type", "int32", "int64", TYPE, "m.M.c"),
-        gone("source", "message-removed", "message", "m.N", FILE, CODE),
+        gone("wire", "message-removed", "message", "m.N", FILE, WRITTEN),
     ]
     forward = [
         kind("m.M.b", 2, "bool", "int32"),
@@ -1342,7 +1407,56 @@ def place_in(file: descriptor_pb2.FileDescriptorProto, name: str) -> Place:
 
 
 # The changes whose place in an older version may be that of a message.
-OF_MESSAGES = ("field-kind", "field-cardinality", "field-oneof", "field-required", "number-free")
+OF_MESSAGES = (
+    "field-kind",
+    "field-cardinality",
+    "field-oneof",
+    "field-required",
+    "number-free",
+    "reserved-removed",
+)
+
+# The messages that a row removes, which is told at wire in front of the others: they stand first.
+GONE = {
+    "json-message-removed": ["m.N"],
+    "json-message-under-another-name": ["m.N"],
+    "json-message-under-another-name-that-holds-itself": ["m.N"],
+    "json-message-under-another-name-that-lacks-a-field": ["m.N"],
+    "json-message-under-another-name-with-a-field-of-another-form": ["m.N"],
+    "json-message-under-another-name-with-a-field-of-another-name": ["m.N"],
+    "json-message-under-another-name-with-a-further-field": ["m.N"],
+    "json-message-under-another-name-with-a-list-that-was-one-value": ["m.N"],
+    "message-removed-that-no-field-holds": ["m.N"],
+    "message-to-another": ["m.N"],
+    "message-under-another-name": ["m.N"],
+    "message-under-another-name-as-the-value-of-a-map": ["m.N"],
+    "message-under-another-name-that-holds-itself": ["m.N"],
+    "message-under-another-name-that-is-extended": ["m.N"],
+    "message-under-another-name-with-a-free-number": ["m.N"],
+    "message-under-another-name-with-a-list-that-is-none": ["m.N"],
+    "message-under-another-name-with-a-map": ["m.N"],
+    "message-under-another-name-with-a-nested-one": ["m.N", "m.N.I"],
+    "message-under-another-name-with-a-oneof": ["m.N"],
+    "message-under-another-name-with-a-required-field": ["m.N"],
+    "message-under-another-name-with-a-reserved-field": ["m.N"],
+    "message-under-another-name-with-fields-in-one-oneof": ["m.N"],
+    "message-under-another-name-with-wider-fields": ["m.N"],
+}
+
+
+def with_gone(row: Row) -> Row:
+    """A row with the messages that it removes, those at each level behind those before it."""
+    levels = ("wire", "json", "source")
+    removed = [gone("wire", "message-removed", "message", name, FILE, WRITTEN) for name in GONE.get(row.name, [])]
+    if row.backward is not None:
+        row.backward = sorted([*removed, *row.backward], key=lambda change: levels.index(change.level))
+    json_, source_ = BEYOND.get((row.name, "backward"), (0, 0))
+    if removed:
+        BEYOND[row.name, "backward"] = (json_, source_ - len(removed) if row.level != "source" else 0)
+    return row
+
+
+ROWS = [with_gone(row) for row in ROWS]
 
 
 @dataclass
@@ -1514,9 +1628,16 @@ RULES = (
     (
         "wire",
         "number-free",
-        "A field is gone, and its number is neither reserved nor left to extensions.",
+        "A field is gone, and its number is not reserved.",
         "Reserve the number.",
     ),
+    (
+        "wire",
+        "reserved-removed",
+        "A number that was reserved is so no more, or has a field.",
+        "Keep it reserved.",
+    ),
+    ("wire", "message-removed", "A message is gone.", "Keep it, and mark it as deprecated."),
     (
         "wire",
         "message-set",
@@ -1583,7 +1704,6 @@ RULES = (
     ("source", "file-package", "A file has another package.", "Leave it."),
     ("source", "file-syntax", "A file has another syntax.", "Leave it."),
     ("source", "option-changed", "An option of a file that names code is another.", "Leave it."),
-    ("source", "message-removed", "A message is gone.", "Keep it, and mark it as deprecated."),
     ("source", "enum-removed", "An enum is gone.", "Keep it, and mark it as deprecated."),
     ("source", "field-name", "A field has another name.", "Leave the name."),
     (

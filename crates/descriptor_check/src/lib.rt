@@ -44,6 +44,7 @@ pub use faults::faults_text;
 pub use guises::Guise;
 pub use inputs::Input;
 pub use named::describe_name;
+pub use olders::Older;
 pub use pool_text::describe;
 pub use runs::run;
 pub use verdicts::{Refusal, Verdict, verdict_on, verdict_on_joined};

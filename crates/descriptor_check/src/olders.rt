@@ -20,7 +20,7 @@ use verdict_texts::{RefusedBatch, refused_text, tell_refusal, too_many_text, unr
 
 /// An older version.
 #[derive(Drop)]
-pub(crate) struct Older {
+pub struct Older {
     /// The name of its set.
     pub name: Text,
     /// The pool of its files.

@@ -74,5 +74,5 @@ module _ (most : Option ℕ) (p : Contents) (batch : Batch) (fits : Fits p batch
 pub all_told : {U : Type 0} (p : Contents) (batch : Batch) (r : Result U BuildError) (q : Contents) → OutcomeWithin None p batch r q → Outcome p batch r q
 all_told p batch (Ok u) q within = within
 all_told p batch (Err (TooMany kind)) q within = within
-all_told p batch (Err (Descriptor error)) q within = record { fits = within.fits; all = within.first; unchanged = within.unchanged }
+all_told p batch (Err (Descriptor error)) q within = record { fits = within.fits; all = within.first; no_more = within.rest; unchanged = within.unchanged }
 all_told p batch (Err OutOfMemory) q within = within

@@ -22,12 +22,13 @@ pub record IsTooMany (old : Contents) (batch : Batch) (kind : CountKind)
   pub first : counts_after old batch ≡ Err kind
   pub unchanged : new ≡ old
 
--- the batch fits, the error tells all faults of the first pass that finds any, in order, and the
--- pool is as it was
+-- the batch fits, the error tells all faults of the first pass that finds any, in order, and no
+-- further ones, and the pool is as it was
 pub record IsRefused (old : Contents) (batch : Batch) (error : DescriptorError)
     (new : Contents) : Type 0 where
   pub fits : Fits old batch
   pub all : error.errors ≡ faults old batch
+  pub no_more : error.rest ≡ 0
   pub unchanged : new ≡ old
 
 -- the batch fits, memory was refused, and the pool is as it was

@@ -1,13 +1,17 @@
 //! A set that is checked, and the pool that the set of its linked files makes.
 
-ghost use Rattle.std.specs.Prelude.{◌<◌, ◌^◌, IfOk, IfSome, length};
+ghost use Rattle.std.specs.Prelude.{◌≡◌, ◌<◌, ◌^◌, IfOk, IfSome, length};
 ghost use Rattle.stored_pools.specs.Stored.{MakesPool};
+ghost use Rattle.descriptor_check.specs.Against.{answer_against};
+ghost use Rattle.descriptor_check.specs.declared.answer.Status.TheVariants.{Accepted};
+ghost use Rattle.example_pool.specs.Against.{AcceptedIsRead, HasPools};
 ghost use Rattle.example_pool.specs.Checked.{AcceptedAs, CheckedIsLoaded};
 
 use descriptor_check::{Answer, Input, LinkedSet, Wanted, check};
 use descriptor_encoding::read_is_whole;
 use descriptor_pool::DescriptorPool;
 use plain_data::{Items, Text};
+use pool_changes::untold_is_read;
 use std::alloc::{AllocError, Global};
 use std::io;
 use stored_pools::{linked_is_loaded, load};
@@ -28,6 +32,25 @@ pub fn checked_is_loaded(wanted: &Wanted, inputs: &[Input], answer: &Answer)
     read_is_whole();
     linked_is_loaded();
     bytes_are_fewer(&answer.linked);
+}
+
+/// Where the check against older versions ends with the status of an accepted batch, the inputs are
+/// accepted, with a pool, and so is each older version; and what one version writes of a message is
+/// read by the other, in each direction that is asked for, if both have a message of that name. The
+/// call does nothing: its contract is the law.
+pub fn accepted_is_read(
+    wanted: &Wanted,
+    older: &[Input],
+    inputs: &[Input],
+    answer: &Answer,
+    old: &DescriptorPool,
+    new: &DescriptorPool,
+)
+    ensures read { AcceptedIsRead wanted.now older.now inputs.now answer.now old.now new.now }
+    ensures pools { answer.now ≡ answer_against wanted.now older.now inputs.now
+        → answer.now.status ≡ Accepted → HasPools wanted.now older.now inputs.now }
+{
+    untold_is_read(old, new);
 }
 
 /// The bytes of a set are fewer than 2^64, as those of every slice are.

@@ -1,6 +1,6 @@
 -- A field with a number that is free changes nothing.
 use Rattle.std.proofs.Common.{◌≡◌, ◌≢◌, ◌==◌, ◌||◌, ℕ, zero, suc, false, not, cond, Option, Some, None, List, [], ◌∷◌, ◌++◌, length, flat_map, option_map, option_and_then, slice_get, is_some, refl, ap, sym, subst, ◌∙◌, arith}
-use Rattle.std.proofs.lemmas.Bool.{or_left}
+use Rattle.std.proofs.lemmas.Bool.{or_left, or_right}
 use Rattle.std.proofs.lemmas.Bool.Decides.{nat_tests}
 use Rattle.std.proofs.lemmas.Cmp.{nat_cmp_total}
 use Rattle.std.specs.FinMap as finite
@@ -13,13 +13,15 @@ use Rattle.pool_types.specs.declared.contents.message.MessageDescriptorInner.{Me
 use Rattle.descriptor_pool.specs.Invariant.{IsPool}
 use Rattle.schema_changes.specs.declared.change.WireChangeKind.TheVariants as change
 use Rattle.schema_changes.specs.declared.entries.Entry.{Entry}
-use Rattle.schema_changes.specs.Changes.{Compared, message_changes, old_entry, required_changes, required_extension_changes, was_required}
+use Rattle.schema_changes.specs.Changes.{Compared, added_changes, added_extension_changes, message_changes, old_entry, required_changes, taken_changes, was_required}
 use Rattle.schema_changes.specs.Entries.{entry_numbered, extension_at, extension_in, field_entry}
 use Rattle.schema_changes.specs.Kinds.{is_required}
+use Rattle.schema_changes.specs.Pairs.{leaves_reserved}
 use Rattle.schema_changes.specs.Parts.{parts_of}
+use Rattle.schema_changes.specs.Records.{is_kept_free, reserved_of}
 use Rattle.schema_changes.proofs.Keeping.{followed, mapped}
 use Rattle.pool_changes.specs.Laws.{with_field}
-use Rattle.pool_changes.proofs.Itself.{extension-found, extensions-none, field-found, fields-none, free-of-field, oneofs-none, required-none, untold}
+use Rattle.pool_changes.proofs.Itself.{extension-found, extensions-none, field-found, fields-none, free-of-field, oneofs-none, ranges-none, added-none, untold}
 use Rattle.pool_changes.proofs.Lists.{flat-none}
 use Rattle.pool_changes.proofs.Looking.{looks-up}
 
@@ -37,7 +39,7 @@ last-or-before P (z ∷ xs) y zero x at before last = before at
 last-or-before P (z ∷ xs) y (suc i) x at before last = last-or-before P xs y i x at before last
 
 module _ (p : Contents) (pool : IsPool p) (k : ℕ) (x : MessageDescriptorInner) (there : slice_get p.messages k ≡ Some x) (g : FieldDescriptorInner) (fresh : entry_numbered (parts_of p) x g.number ≡ None)
-    (needless : is_required g.cardinality ≡ false) where
+    (unreserved : is_kept_free (parts_of p) x g.number ≡ false) (needless : is_required g.cardinality ≡ false) where
   abbrev y : MessageDescriptorInner
   y = with_field x g
 
@@ -76,21 +78,33 @@ module _ (p : Contents) (pool : IsPool p) (k : ℕ) (x : MessageDescriptorInner)
   new-required : required_changes c (field_entry g) ≡ []
   new-required = untold (not (is_required g.cardinality) || was_required (old_entry c g.number)) g.number change.Required (or_left (not (is_required g.cardinality)) (was_required (old_entry c g.number)) (ap not needless))
 
-  required-fields : flat_map (λ f. required_changes c (field_entry f)) y.fields ≡ []
-  required-fields = flat-none (λ (f : FieldDescriptorInner). required_changes c (field_entry f)) y.fields (λ i f at.
-      last-or-before (λ (h : FieldDescriptorInner). required_changes c (field_entry h) ≡ []) x.fields g i f at
-      (λ old. required-none p pool k x there y stay again (field_entry f) (field-found p pool k x there i f old))
-      (λ same. subst (λ (h : FieldDescriptorInner). required_changes c (field_entry h) ≡ []) same new-required))
+  new-taken : taken_changes c (field_entry g) ≡ []
+  new-taken =
+      untold (leaves_reserved (parts_of p) x (field_entry g)) g.number change.Unreserved
+      (or_right (is_some (entry_numbered (parts_of p) x g.number)) (not (is_kept_free (parts_of p) x g.number)) (ap not unreserved))
+
+  new-added : added_changes c (field_entry g) ≡ []
+  new-added = ap (λ ys. ys ++ taken_changes c (field_entry g)) new-required ∙ new-taken
+
+  same-ranges : reserved_of (parts_of p) y ≡ reserved_of (parts_of p) x
+  unfolding reserved_of
+  same-ranges = refl
+
+  added-fields : flat_map (λ f. added_changes c (field_entry f)) y.fields ≡ []
+  added-fields = flat-none (λ (f : FieldDescriptorInner). added_changes c (field_entry f)) y.fields (λ i f at.
+      last-or-before (λ (h : FieldDescriptorInner). added_changes c (field_entry h) ≡ []) x.fields g i f at
+      (λ old. added-none p pool k x there y stay again (field_entry f) (field-found p pool k x there i f old))
+      (λ same. subst (λ (h : FieldDescriptorInner). added_changes c (field_entry h) ≡ []) same new-added))
 
   -- an extension that the message lists, as long as no field has its number
-  extension-required : (j i : ℕ) → slice_get x.extensions j ≡ Some i → required_extension_changes c (extension_in (parts_of p) y i) ≡ []
-  extension-required j i at = by (extension_in (parts_of p) y i) refl
+  extension-added : (j i : ℕ) → slice_get x.extensions j ≡ Some i → added_extension_changes c (extension_in (parts_of p) y i) ≡ []
+  extension-added j i at = by (extension_in (parts_of p) y i) refl
     where
-      found : (e : Entry) → extension_at (parts_of p) i ≡ Some e → field_numbered y e.number ≡ None → (got : Option FieldDescriptorInner) → field_numbered x e.number ≡ got → required_changes c e ≡ []
+      found : (e : Entry) → extension_at (parts_of p) i ≡ Some e → field_numbered y e.number ≡ None → (got : Option FieldDescriptorInner) → field_numbered x e.number ≡ got → added_changes c e ≡ []
       found e here free None is =
           let own : Entry → Option Entry = λ a. cond (is_some (field_numbered x a.number)) None (Some a) in
           let has : extension_in (parts_of p) x i ≡ Some e = ap (option_and_then own) here ∙ ap (λ got. cond (is_some got) None (Some e)) is in
-          required-none p pool k x there y stay again e (extension-found p pool k x there j i e at has)
+          added-none p pool k x there y stay again e (extension-found p pool k x there j i e at has)
       found e here free (Some f) is =
           let position = followed (slice_get x.fields) (finite.get x.field_numbers e.number) f is in
           let number : Some f.number ≡ Some e.number = sym (ap (option_map (λ (z : FieldDescriptorInner). z.number)) position.2) ∙ (looks-up p pool k x there).fields e.number position.0 position.1 in
@@ -100,7 +114,7 @@ module _ (p : Contents) (pool : IsPool p) (k : ℕ) (x : MessageDescriptorInner)
           let stays : Some f ≡ None = sym is ∙ sym (field-stays e.number other) ∙ free in
           absurd cc
 
-      by : (got : Option Entry) → extension_in (parts_of p) y i ≡ got → required_extension_changes c got ≡ []
+      by : (got : Option Entry) → extension_in (parts_of p) y i ≡ got → added_extension_changes c got ≡ []
       by None is = refl
       by (Some e) is =
           let own : Entry → Option Entry = λ a. cond (is_some (field_numbered y a.number)) None (Some a) in
@@ -112,5 +126,6 @@ module _ (p : Contents) (pool : IsPool p) (k : ℕ) (x : MessageDescriptorInner)
 
   pub fresh-none : message_changes c ≡ []
   fresh-none =
-      let extensions = flat-none (λ (i : ℕ). required_extension_changes c (extension_in (parts_of p) y i)) x.extensions extension-required in
-      λ t. fields-none p pool k x there y stay again t ++ (extensions-none p pool k x there y stay again t ++ (oneofs-none p pool k x there y stay again t ++ (required-fields t ++ extensions t)))
+      let extensions = flat-none (λ (i : ℕ). added_extension_changes c (extension_in (parts_of p) y i)) x.extensions extension-added in
+      let ranges = ranges-none p x y same-ranges in
+      λ t. fields-none p pool k x there y stay again t ++ (extensions-none p pool k x there y stay again t ++ (oneofs-none p pool k x there y stay again t ++ (added-fields t ++ (extensions t ++ ranges t))))

@@ -1,10 +1,12 @@
 -- No pool changes anything of itself.
-use Rattle.std.proofs.Common.{◌≡◌, ◌<◌, ◌+◌, ◌==◌, ◌&&◌, ◌||◌, ℕ, zero, suc, Bool, true, false, not, cond, Option, Some, None, List, [], ◌∷◌, ◌++◌, length, map, flat_map, option_map, option_and_then, slice_get, is_some, unwrap_or, refl, ap, sym, subst, ◌∙◌, arith}
+use Rattle.std.proofs.Common.{◌≡◌, ◌<◌, ◌+◌, ◌==◌, ◌&&◌, ◌||◌, ℕ, zero, suc, Bool, true, false, not, cond, Option, Some, None, ℤ, List, [], ◌∷◌, ◌++◌, length, map, flat_map, option_map, option_and_then, slice_get, is_some, unwrap_or, refl, ap, sym, subst, ◌∙◌, arith}
 use Rattle.std.proofs.lemmas.Bool.{and_from, eqb-true, eq-eqb, false≢true, or_left, or_right}
 use Rattle.std.proofs.lemmas.Slice.Eq.{bytes_eq-Decides}
+use Rattle.std.proofs.lemmas.Int.{ints}
 use Rattle.std.specs.FinMap as finite
+use Rattle.std.specs.Prelude.{int_le}
 use Rattle.std.specs.List.{AllByRecursion, list_all}
-use Rattle.std.specs.Option.{IfSome, option_map_or, option_or}
+use Rattle.std.specs.Option.{IfSome, is_none, option_map_or, option_or}
 use Rattle.std.proofs.lemmas.Bool.Decides.{Decides-int_eq}
 use Rattle.std.specs.Ordering.{int_eq}
 use Rattle.pool_types.specs.Contents.{Contents}
@@ -20,20 +22,26 @@ use Rattle.pool_types.specs.declared.kinds.Cardinality.{Cardinality}
 use Rattle.pool_types.specs.declared.kinds.Cardinality.TheVariants as cardinality
 use Rattle.pool_types.specs.declared.kinds.KindIndex.{KindIndex}
 use Rattle.pool_types.specs.declared.kinds.KindIndex.TheVariants as index
+use Rattle.field_rules.specs.Maps.{item_number}
 use Rattle.message_values.specs.Fields.{in_one}
+use Rattle.proto_types.specs.Readers.{number_of}
+use Rattle.proto_types.specs.declared.message.ReservedRange.{ReservedRange}
 use Rattle.descriptor_pool.specs.Invariant.{IsPool}
 use Rattle.descriptor_pool.specs.Maps.{fields_in}
 use Rattle.descriptor_pool.proofs.Extendees.{numbers_are_unique}
 use Rattle.schema_changes.specs.declared.change.WireChangeKind.{WireChangeKind}
 use Rattle.schema_changes.specs.declared.change.WireChangeKind.TheVariants as change
 use Rattle.schema_changes.specs.declared.entries.Entry.{Entry}
-use Rattle.schema_changes.specs.Changes.{Compared, entry_changes, extension_changes, first_some, joined_changes, kept_changes, members_changes, message_changes, old_entry, old_member, oneof_changes, required_changes, required_extension_changes, unless, was_required}
+use Rattle.schema_changes.specs.Changes.{Compared, added_changes, added_extension_changes, entry_changes, extension_changes, first_some, is_taken, joined_changes, kept_changes, members_changes, message_changes, old_entry, old_member, oneof_changes, range_changes, required_changes, taken_changes, unless, was_required}
 use Rattle.schema_changes.specs.Entries.{entry_numbered, extension_at, extension_entry, extension_in, field_entry}
 use Rattle.schema_changes.specs.Kinds.{holds, holds_all, is_required, keeps_cardinality, keeps_check, keeps_numbers, messages_of, text_check}
-use Rattle.schema_changes.specs.Pairs.{are_paired, keeps_kind, keeps_map, keeps_message}
+use Rattle.schema_changes.specs.MapEntries.{map_entry_at}
+use Rattle.schema_changes.specs.Pairs.{are_alike, are_paired, keeps_kind, keeps_map, keeps_message, leaves_reserved}
 use Rattle.schema_changes.specs.Parts.{Parts, are_named_alike, has_value, in_proto3, is_open, one_name, parts_of, values_of}
 use Rattle.schema_changes.specs.Pools.{changes_from, changes_with, message_named, of_message, wire_changes}
+use Rattle.schema_changes.specs.Records.{covers, is_kept_free, keeps_range, reserved_of}
 use Rattle.schema_changes.proofs.Keeping.{at-index, followed, mapped}
+use Rattle.schema_changes.proofs.Tests.{passes_at}
 use Rattle.pool_changes.proofs.Lists.{first-found, flat-none, passing-at, picked-are}
 use Rattle.pool_changes.proofs.Looking.{extends-it, extends_one, leads, lies, lists, names_mean, number-leads, one-of, stands_in}
 use Rattle.pool_changes.proofs.Lying.{HoldsOne, KindLies, made-lies}
@@ -78,11 +86,21 @@ bool-itself : (p : Parts) → keeps_numbers p index.Bool p index.Bool ≡ true
 unfolding keeps_numbers holds
 bool-itself p = refl
 
+-- and it is an entry of a map, or it is not
+alike-itself : (p : Parts) (m : ℕ) (x : MessageDescriptorInner) → slice_get p.messages m ≡ Some x → are_alike p m p m ≡ true
+unfolding are_alike
+alike-itself p m x there =
+    and_from (one_name p m p m) (cond (is_some (map_entry_at p m)) (is_some (map_entry_at p m)) (is_none (map_entry_at p m))) (named-itself p m x there) (by (map_entry_at p m))
+  where
+    by : (got : Option MessageDescriptorInner) → cond (is_some got) (is_some got) (is_none got) ≡ true
+    by (Some y) = refl
+    by None = refl
+
 pair-itself : (p : Parts) (m : ℕ) → m < length p.messages → are_paired p m p m ≡ true
 unfolding are_paired
 pair-itself p m below =
     let x = found-below p.messages m below in
-    or_left (one_name p m p m || keeps_map p m p m) (keeps_message p m p m) (or_left (one_name p m p m) (keeps_map p m p m) (named-itself p m x.0 x.1))
+    or_left (are_alike p m p m || keeps_map p m p m) (keeps_message p m p m) (or_left (are_alike p m p m) (keeps_map p m p m) (alike-itself p m x.0 x.1))
 
 kind-itself : (p : Parts) (b : Bool) (k : KindIndex) → KindLies (length p.messages) k
     → (keeps_numbers p k p k || keeps_check (text_check b k) (text_check b k) || option_map_or (λ e. are_paired p e.0 p e.1) (messages_of k k) false) ≡ true
@@ -122,6 +140,23 @@ cardinality-itself k cardinality.Required = by (is_message k)
 pub untold : (b : Bool) (n : ℕ) (what : WireChangeKind) → b ≡ true → unless b n what ≡ []
 untold true n what passes = refl
 untold false n what fails = absurd (false≢true fails)
+
+-- a range covers itself
+self-held : (a b : ℤ) → (int_le a a && int_le b b) ≡ true
+self-held a b = grind (arith, ints)
+
+covers-itself : (r : ReservedRange) → covers r r ≡ true
+covers-itself r = self-held (number_of r.start) (number_of r.«end»)
+
+-- so what a message reserves stays reserved, where another one reserves the same
+pub ranges-none : (p : Contents) (x y : MessageDescriptorInner) → reserved_of (parts_of p) y ≡ reserved_of (parts_of p) x
+    → flat_map (range_changes (record { old = parts_of p; before = x; new = parts_of p; after = y })) (reserved_of (parts_of p) x) ≡ []
+ranges-none p x y same =
+    flat-none (range_changes (record { old = parts_of p; before = x; new = parts_of p; after = y })) (reserved_of (parts_of p) x) (λ i r at.
+    let c : Compared = record { old = parts_of p; before = x; new = parts_of p; after = y } in
+    let n = item_number (number_of r.start) in
+    untold (keeps_range (parts_of p) y r || is_taken c n) n change.Unreserved (or_left (keeps_range (parts_of p) y r) (is_taken c n)
+    (passes_at (covers r) (reserved_of (parts_of p) y) i r (ap (λ (rs : List ReservedRange). slice_get rs i) same ∙ at) (covers-itself r))))
 
 -- a field that is not there, and so the entry that is
 pub free-of-field : (got : Option FieldDescriptorInner) (e g : Entry) → cond (is_some got) None (Some e) ≡ Some g → (got ≡ None) × (e ≡ g)
@@ -198,6 +233,13 @@ module _ (p : Contents) (pool : IsPool p) (k : ℕ) (x : MessageDescriptorInner)
         by true = refl
         by false = refl
 
+    taken-none : (f : Entry) → entry_numbered (parts_of p) x f.number ≡ Some f → taken_changes c f ≡ []
+    taken-none f is =
+        untold (leaves_reserved (parts_of p) x f) f.number change.Unreserved (or_left (is_some (entry_numbered (parts_of p) x f.number)) (not (is_kept_free (parts_of p) x f.number)) (ap is_some is))
+
+    pub added-none : (f : Entry) → entry_numbered (parts_of p) x f.number ≡ Some f → added_changes c f ≡ []
+    added-none f is = ap (λ ys. ys ++ taken_changes c f) (required-none f is) ∙ taken-none f is
+
     pub fields-none : flat_map (λ f. entry_changes c (field_entry f)) x.fields ≡ []
     fields-none = flat-none (λ (f : FieldDescriptorInner). entry_changes c (field_entry f)) x.fields (λ i f at.
         entry-none (field_entry f) (at-index (λ (g : FieldDescriptorInner). KindLies (length p.messages) g.kind) x.fields i f (lies p pool k x there).kinds at) (field-found i f at))
@@ -248,12 +290,12 @@ module _ (p : Contents) (pool : IsPool p) (k : ℕ) (x : MessageDescriptorInner)
     pub oneofs-none : flat_map (oneof_changes c) x.oneofs ≡ []
     oneofs-none = flat-none (oneof_changes c) x.oneofs oneof-none
 
-    pub required-extensions-none : flat_map (λ i. required_extension_changes c (extension_in (parts_of p) x i)) x.extensions ≡ []
-    required-extensions-none = flat-none (λ (i : ℕ). required_extension_changes c (extension_in (parts_of p) x i)) x.extensions (λ j i at. by j i at (extension_in (parts_of p) x i) refl)
+    pub added-extensions-none : flat_map (λ i. added_extension_changes c (extension_in (parts_of p) x i)) x.extensions ≡ []
+    added-extensions-none = flat-none (λ (i : ℕ). added_extension_changes c (extension_in (parts_of p) x i)) x.extensions (λ j i at. by j i at (extension_in (parts_of p) x i) refl)
       where
-        by : (j i : ℕ) → slice_get x.extensions j ≡ Some i → (got : Option Entry) → extension_in (parts_of p) x i ≡ got → required_extension_changes c got ≡ []
+        by : (j i : ℕ) → slice_get x.extensions j ≡ Some i → (got : Option Entry) → extension_in (parts_of p) x i ≡ got → added_extension_changes c got ≡ []
         by j i at None is = refl
-        by j i at (Some g) is = required-none g (extension-found j i g at is)
+        by j i at (Some g) is = added-none g (extension-found j i g at is)
 
   -- nothing changes of a message
   pub message-itself : message_changes (record { old = parts_of p; before = x; new = parts_of p; after = x }) ≡ []
@@ -261,8 +303,9 @@ module _ (p : Contents) (pool : IsPool p) (k : ℕ) (x : MessageDescriptorInner)
       let stay : (i : ℕ) (f : FieldDescriptorInner) → slice_get x.fields i ≡ Some f → slice_get x.fields i ≡ Some f = λ i f at. at in
       let again : (e : Entry) → entry_numbered (parts_of p) x e.number ≡ Some e → entry_numbered (parts_of p) x e.number ≡ Some e = λ e is. is in
       let c : Compared = record { old = parts_of p; before = x; new = parts_of p; after = x } in
-      let required = flat-none (λ (f : FieldDescriptorInner). required_changes c (field_entry f)) x.fields (λ i f at. required-none x stay again (field_entry f) (field-found i f at)) in
-      λ t. fields-none x stay again t ++ (extensions-none x stay again t ++ (oneofs-none x stay again t ++ (required t ++ required-extensions-none x stay again t)))
+      let added = flat-none (λ (f : FieldDescriptorInner). added_changes c (field_entry f)) x.fields (λ i f at. added-none x stay again (field_entry f) (field-found i f at)) in
+      let ranges = ranges-none p x x refl in
+      λ t. fields-none x stay again t ++ (extensions-none x stay again t ++ (oneofs-none x stay again t ++ (added t ++ (added-extensions-none x stay again t ++ ranges t))))
 
 -- nothing comes of messages of which nothing changes
 from-itself : (p : Contents) → IsPool p → (first : ℕ) (xs : List MessageDescriptorInner) → ((i : ℕ) (x : MessageDescriptorInner) → slice_get xs i ≡ Some x → (k : ℕ) × (slice_get p.messages k ≡ Some x))

@@ -15,8 +15,8 @@ use Rattle.schema_changes.specs.MessageSets.{is_message_set}
 use Rattle.schema_changes.specs.Parts.{parts_of}
 use Rattle.schema_changes.specs.declared.change.WireChange.{WireChange}
 use Rattle.schema_changes.specs.declared.change.WireChangeKind.TheVariants as change
-use Rattle.pool_changes.specs.FieldChanges.{are_formed_alike, are_typed_alike, default_changes, form_changes, name_changes, oneof_moves, part_json, part_source, presence_changes, reads_number, keeps_values, repeated_changes, type_changes, keeps_form, are_messages_alike, one_repeats}
-use Rattle.pool_changes.specs.FieldParts.{Part, default_side, form_side, given_default, given_oneof, json_side, message_word, name_side, object_word, oneof_at, oneof_side, presence_side, presence_word, repeated_side, repeated_word, type_side}
+use Rattle.pool_changes.specs.FieldChanges.{are_formed_alike, are_typed_alike, default_changes, have_first_alike, form_changes, name_changes, oneof_moves, part_json, part_source, presence_changes, reads_number, keeps_values, repeated_changes, type_changes, keeps_form, are_messages_alike, one_repeats}
+use Rattle.pool_changes.specs.FieldParts.{Part, default_side, form_side, given_oneof, json_side, message_word, name_side, object_word, oneof_at, oneof_side, presence_side, presence_word, repeated_side, repeated_word, type_side}
 use Rattle.pool_changes.specs.Comparing.{set_changes, set_side, set_word}
 use Rattle.pool_changes.specs.Removed.{field_record, package_side, package_word, syntax_side, syntax_word, tells}
 use Rattle.pool_changes.specs.Services.{input, kept_method_changes, output, streaming, streams}
@@ -66,7 +66,7 @@ presence_alike f g same set =
     (subst (λ c. bytes_eq word (presence_word c g.has_presence) ≡ true) same
     (subst (λ b. bytes_eq word (presence_word f.entry.cardinality b) ≡ true) set (same-text word))) refl
 
--- ---- oneofs and default values
+-- ---- oneofs
 
 pub oneof_neither : (v : Versions) (x y : MessageDescriptorInner) (f g : Part) → option_and_then (oneof_at (writer v) x) f.entry.oneof ≡ None → option_and_then (oneof_at (reader v) y) g.entry.oneof ≡ None
     → are_alike (oneof_side (writer v) x f) (oneof_side (reader v) y g) ≡ true
@@ -80,13 +80,6 @@ oneof_both v x y f g o p first second names =
     subst (λ got. are_alike (given_oneof f got) (oneof_side (reader v) y g) ≡ true) (sym first)
     (subst (λ got. are_alike (given_oneof f (Some o)) (given_oneof g got) ≡ true) (sym second)
     (and_from (bytes_eq (codes "part of ") (codes "part of ")) (bytes_eq o.id.full_name p.id.full_name) (same-text (codes "part of ")) names))
-
-pub default_none : (v : Versions) (f g : Part) → option_and_then (λ (r : FieldDescriptorProto). r.default_value) (field_record (writer v) f.id) ≡ None
-    → option_and_then (λ (r : FieldDescriptorProto). r.default_value) (field_record (reader v) g.id) ≡ None
-    → are_alike (default_side (writer v) f) (default_side (reader v) g) ≡ true
-default_none v f g none given =
-    subst (λ got. are_alike (given_default f got) (default_side (reader v) g) ≡ true) (sym none)
-    (subst (λ got. are_alike (given_default f None) (given_default g got) ≡ true) (sym given) refl)
 
 -- ---- what is told
 
@@ -165,7 +158,7 @@ module _ (v : Versions) (found : List WireChange) (f g : Part) where
 
   pub source_none : (x y : MessageDescriptorInner) → are_alike (name_side f) (name_side g) ≡ true → are_typed_alike v f.entry.kind g.entry.kind ≡ true
       → are_alike (presence_side f) (presence_side g) ≡ true → are_alike (oneof_side (writer v) x f) (oneof_side (reader v) y g) ≡ true
-      → are_alike (default_side (writer v) f) (default_side (reader v) g) ≡ true → part_source v x y found f g ≡ []
+      → have_first_alike v f g ≡ true → part_source v x y found f g ≡ []
   source_none x y name type presence oneof default =
       both-none (name_changes v f g) (type_changes v found f g ++ (presence_changes v found f g ++ (oneof_moves v x y found f g ++ default_changes v f g)))
       (or-none (bytes_eq f.json_name g.json_name) (differing v element.FieldName (name_side f) (name_side g)) (alike-none v element.FieldName (name_side f) (name_side g) name))
@@ -181,4 +174,4 @@ module _ (v : Versions) (found : List WireChange) (f g : Part) where
       (either-none (tells v.direction found f.entry.number change.Oneof)
       (differing v element.FieldOneof (oneof_side (writer v) x f) (oneof_side (reader v) y g))
       (alike-none v element.FieldOneof (oneof_side (writer v) x f) (oneof_side (reader v) y g) oneof))
-      (alike-none v element.FieldDefault (default_side (writer v) f) (default_side (reader v) g) default))))
+      (ap (λ b. if b then [] else differing v element.FieldDefault (default_side (writer v) f) (default_side (reader v) g)) default))))

@@ -14,8 +14,8 @@ use Rattle.pool_changes.specs.FieldChanges.{part_json, part_source}
 use Rattle.pool_changes.specs.FieldParts.{Part, field_part, extension_part_at, part_numbered}
 use Rattle.pool_changes.specs.Removed.{enum_named, field_removed, value_changes, file_changes}
 use Rattle.pool_changes.specs.Removed.{file_named, message_removed, oneof_changes}
-use Rattle.pool_changes.specs.Sides.{Versions, Side, both_of, writer, reader, there, removed}
-use Rattle.pool_changes.specs.Sides.{differing}
+use Rattle.pool_changes.specs.Sides.{Versions, Side, both_of, first_by, writer, reader, there}
+use Rattle.pool_changes.specs.Sides.{differing, removed}
 use Rattle.pool_changes.specs.declared.kinds.ElementChange.TheVariants as element
 
 -- what changes at json of a field or an extension, by the reader's message, what changes of it at
@@ -89,10 +89,14 @@ parts_source v x y found =
     ++ (flat_map (λ i. extension_source v x y found (extension_part_at (writer v) i)) x.extensions
     ++ flat_map (oneof_changes v x y) x.oneofs)
 
+-- what is told at source of a message that the reader lacks, which backward is told at wire
+abbrev pub lacked_at_source : Versions → MessageDescriptorInner → List ToldFault
+lacked_at_source v x = first_by v.direction [] (message_removed v x)
+
 -- what changes at source of a message, by the reader's with its name
 abbrev pub message_source : Versions → MessageDescriptorInner → Option MessageDescriptorInner
     → List ToldFault
-message_source v x None = message_removed v x
+message_source v x None = lacked_at_source v x
 message_source v x (Some y) = parts_source v x y (message_changes (both_of v x y))
 
 -- the words for whether an enum is open

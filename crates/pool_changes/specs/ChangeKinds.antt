@@ -89,7 +89,8 @@ element_note element.ValueRemoved = value_note
 element_note element.ValueName = value_note
 element_note element.FileRemoved =
     codes "sources import it: keep it, if only with public imports of other files"
-element_note element.MessageRemoved = code_note
+element_note element.MessageRemoved =
+    codes "what was written of it is not read: keep it, and mark it as deprecated"
 element_note element.OneofRemoved = code_note
 element_note element.FieldName = codes "code names it: leave the name"
 element_note element.FieldType = codes "code has values of the other type: leave it"

@@ -13,9 +13,10 @@ use Rattle.schema_changes.specs.declared.change.WireChange.{WireChange}
 use Rattle.verdict_texts.specs.declared.telling.ToldFault.{ToldFault}
 use Rattle.pool_changes.specs.AtLevels.{at_json, at_source}
 use Rattle.pool_changes.specs.Members.{by_writer}
-use Rattle.pool_changes.specs.Removed.{is_told}
+use Rattle.pool_changes.specs.Removed.{is_told, message_removed}
 use Rattle.pool_changes.specs.Services.{services_changes}
-use Rattle.pool_changes.specs.Sides.{Versions, Side, both_of, writer, reader, there, differing}
+use Rattle.pool_changes.specs.Sides.{Versions, Side, both_of, first_by, writer, reader, there}
+use Rattle.pool_changes.specs.Sides.{differing}
 use Rattle.pool_changes.specs.Telling.{told_change}
 use Rattle.pool_changes.specs.declared.direction.Direction.TheVariants.{Backward}
 use Rattle.pool_changes.specs.declared.kinds.ElementChange.TheVariants as element
@@ -41,10 +42,15 @@ set_side p x = there x.id (set_word (is_message_set (parts_of p) x)) []
 abbrev pub set_changes : Versions → MessageDescriptorInner → MessageDescriptorInner → List ToldFault
 set_changes v x y = differing v element.MessageSet (set_side (writer v) x) (set_side (reader v) y)
 
+-- what is told at wire of a message that the reader lacks: the new version does not read what an
+-- older one wrote of it. That an older version lacks a message is told at source
+abbrev pub lacked_at_wire : Versions → MessageDescriptorInner → List ToldFault
+lacked_at_wire v x = first_by v.direction (message_removed v x) []
+
 -- what is told of a message of the writer, by the reader's with its name
 abbrev pub message_told : Versions → MessageDescriptorInner → Option MessageDescriptorInner
     → List ToldFault
-message_told v x None = []
+message_told v x None = lacked_at_wire v x
 message_told v x (Some y) = flat_map (told_if v (both_of v x y)) (message_changes (both_of v x y))
     ++ set_changes v x y
 

@@ -2,7 +2,8 @@
 use Rattle.std.specs.Prelude.{ℕ, Bool, true, false, not, ◌||◌, ◌&&◌, ◌==◌, List, [], ◌∷◌, ◌++◌}
 use Rattle.std.specs.Prelude.{slice_get, Option, Some, if◌then◌else◌}
 use Rattle.std.specs.List.{list_all}
-use Rattle.std.specs.Option.{option_map_or}
+use Rattle.std.specs.Option.{is_none, option_map_or}
+use Rattle.std.specs.Ordering.{int_eq}
 use Rattle.std.specs.Str.{bytes_eq}
 use Rattle.pool_types.specs.declared.contents.field.FieldDescriptorInner.{FieldDescriptorInner}
 use Rattle.pool_types.specs.declared.contents.message.MessageDescriptorInner.{MessageDescriptorInner}
@@ -14,7 +15,8 @@ use Rattle.schema_changes.specs.declared.change.WireChangeKind.TheVariants as ch
 use Rattle.verdict_texts.specs.declared.telling.ToldFault.{ToldFault}
 use Rattle.pool_changes.specs.FieldParts.{Part, field_part, part_numbered, form_side, json_side}
 use Rattle.pool_changes.specs.FieldParts.{json_word, type_word, type_name, repeated_side, name_side}
-use Rattle.pool_changes.specs.FieldParts.{type_side, presence_side, default_side, oneof_side}
+use Rattle.pool_changes.specs.FieldParts.{type_side, presence_side, default_side, default_text}
+use Rattle.pool_changes.specs.FieldParts.{first_number, oneof_side}
 use Rattle.pool_changes.specs.Removed.{tells}
 use Rattle.pool_changes.specs.Sides.{Versions, writer, reader, differing, told_between}
 use Rattle.pool_changes.specs.declared.kinds.ElementChange.TheVariants as element
@@ -121,10 +123,19 @@ abbrev pub oneof_moves : Versions → MessageDescriptorInner → MessageDescript
 oneof_moves v x y found f g = if tells v.direction found f.entry.number change.Oneof then []
     else differing v element.FieldOneof (oneof_side (writer v) x f) (oneof_side (reader v) y g)
 
--- what changes of the default value that its record gives
+-- whether two fields, of which none is given a default value, are read alike where they are missing:
+-- the reader's is repeated, or the first numbers of their kinds are one
+abbrev pub have_first_alike : Versions → Part → Part → Bool
+have_first_alike v f g =
+    is_none (default_text (writer v) f) && is_none (default_text (reader v) g)
+    && (is_repeated g.entry.cardinality
+    || int_eq (first_number (writer v) f.entry.kind) (first_number (reader v) g.entry.kind))
+
+-- what changes of what a missing field is read as: a default value that is given, or else the first
+-- value of an enum
 abbrev pub default_changes : Versions → Part → Part → List ToldFault
-default_changes v f g =
-    differing v element.FieldDefault (default_side (writer v) f) (default_side (reader v) g)
+default_changes v f g = if have_first_alike v f g then []
+    else differing v element.FieldDefault (default_side (writer v) f) (default_side (reader v) g)
 
 -- what changes of it at source, by its messages: its name, its type, its presence, its oneof, and
 -- its default value

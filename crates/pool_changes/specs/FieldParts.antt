@@ -1,12 +1,14 @@
 -- A field or an extension of a message, as JSON and code that is made of the schema have it.
-use Rattle.std.specs.Prelude.{ℕ, Bool, true, false, List, [], codes, is_some, unwrap_or, slice_get}
-use Rattle.std.specs.Prelude.{option_map, option_and_then, Option, Some, None, if◌then◌else◌}
+use Rattle.std.specs.Prelude.{ℕ, ℤ, pos, Bool, true, false, List, [], codes, is_some, unwrap_or}
+use Rattle.std.specs.Prelude.{slice_get, option_map, option_and_then, Option, Some, None}
+use Rattle.std.specs.Prelude.{if◌then◌else◌}
 use Rattle.std.specs.FinMap as finite
-use Rattle.std.specs.Option.{option_or}
+use Rattle.std.specs.Option.{option_or, option_map_or}
 use Rattle.pool_types.specs.Contents.{Contents}
 use Rattle.pool_types.specs.Kinds.{kind_name}
 use Rattle.pool_types.specs.LookUps.{field_numbered}
 use Rattle.pool_types.specs.declared.contents.definition.Identity.{Identity}
+use Rattle.pool_types.specs.declared.contents.enumeration.EnumValueDescriptorInner.{EnumValueDescriptorInner}
 use Rattle.pool_types.specs.declared.contents.extension.ExtensionDescriptorInner.{ExtensionDescriptorInner}
 use Rattle.pool_types.specs.declared.contents.field.FieldDescriptorInner.{FieldDescriptorInner}
 use Rattle.pool_types.specs.declared.contents.message.MessageDescriptorInner.{MessageDescriptorInner}
@@ -151,14 +153,33 @@ presence_word cardinality.Optional false = codes "implicit presence"
 abbrev pub presence_side : Part → Side
 presence_side f = there f.id (presence_word f.entry.cardinality f.has_presence) []
 
--- a default value that is given, or none, as a side
-abbrev pub given_default : Part → Option (List ℕ) → Side
-given_default f (Some text) = there f.id (codes "default value ") text
-given_default f None = there f.id (codes "no default value") []
+-- the first value of the enum of a kind, if it is one
+abbrev pub first_value : Contents → KindIndex → Option EnumValueDescriptorInner
+first_value p (kind.Enum e) = option_and_then (λ x. slice_get x.values 0) (slice_get p.enums e)
+first_value p _ = None
 
--- the default value that a record gives, as a side
+-- the number that a missing field is read as where no default value is given: that of the first
+-- value of its enum, or 0
+abbrev pub first_number : Contents → KindIndex → ℤ
+first_number p k = option_map_or (λ x. x.number) (first_value p k) (pos 0)
+
+-- what a missing field is read as where no default value is given, as a side
+abbrev pub first_side : Part → Option EnumValueDescriptorInner → Side
+first_side f (Some x) = there f.id (codes "first value ") x.id.full_name
+first_side f None = there f.id (codes "no default value") []
+
+-- the default value that a record gives
+abbrev pub default_text : Contents → Part → Option (List ℕ)
+default_text p f = option_and_then (λ r. r.default_value) (field_record p f.id)
+
+-- a default value that is given, or what is read without one, as a side
+abbrev pub given_default : Contents → Part → Option (List ℕ) → Side
+given_default p f (Some text) = there f.id (codes "default value ") text
+given_default p f None = first_side f (first_value p f.entry.kind)
+
+-- what a missing field is read as, as a side
 abbrev pub default_side : Contents → Part → Side
-default_side p f = given_default f (option_and_then (λ r. r.default_value) (field_record p f.id))
+default_side p f = given_default p f (default_text p f)
 
 -- the oneof of a message at a position, unless it stands for the presence of a field alone
 abbrev pub oneof_at : Contents → MessageDescriptorInner → ℕ → Option OneofDescriptorInner

@@ -46,9 +46,10 @@ unfoldable pub enum_named : Contents → List ℕ → Option EnumDescriptorInner
 enum_named p name = option_and_then (λ d. enum_meant p d.kind) (finite.get p.names name)
 
 -- whether a kind of change is told in a direction; a field that an older reader lacks is unknown to
--- it, so that its number is free there is no change
+-- it, so that its number is free there is no change, nor that it was reserved
 abbrev pub is_told : Direction → WireChangeKind → Bool
 is_told Forward change.FreeNumber = false
+is_told Forward change.Unreserved = false
 is_told _ _ = true
 
 -- whether two kinds of changes are one
@@ -58,6 +59,7 @@ same_kind change.Cardinality change.Cardinality = true
 same_kind change.Oneof change.Oneof = true
 same_kind change.Required change.Required = true
 same_kind change.FreeNumber change.FreeNumber = true
+same_kind change.Unreserved change.Unreserved = true
 same_kind _ _ = false
 
 -- whether changes of a message at wire have one of a kind with a number, which is told

@@ -1,6 +1,6 @@
 -- What is told of each kind of change: its name, what both versions have, and what to do.
 use Rattle.std.specs.Prelude.{ℕ, ℤ, Bool, true, false, List, [], ◌++◌, codes, slice_get, Option}
-use Rattle.std.specs.Prelude.{Some, None, if◌then◌else◌}
+use Rattle.std.specs.Prelude.{Some, None, if◌then◌else◌, is_some}
 use Rattle.std.specs.Fmt.{decimal, signed_decimal}
 use Rattle.std.specs.Option.{option_map_or}
 use Rattle.pool_types.specs.Kinds.{kind_name}
@@ -10,6 +10,7 @@ use Rattle.pool_types.specs.declared.kinds.KindIndex.{KindIndex}
 use Rattle.pool_types.specs.declared.kinds.KindIndex.TheVariants as kind
 use Rattle.schema_changes.specs.Changes.{Compared, old_entry, new_entry}
 use Rattle.schema_changes.specs.Lacking.{lacking}
+use Rattle.schema_changes.specs.MapEntries.{map_entry_at}
 use Rattle.schema_changes.specs.Parts.{Parts, in_proto3, is_open}
 use Rattle.schema_changes.specs.declared.change.WireChangeKind.{WireChangeKind}
 use Rattle.schema_changes.specs.declared.change.WireChangeKind.TheVariants as change
@@ -30,6 +31,7 @@ change_code change.Cardinality = codes "field-cardinality"
 change_code change.Oneof = codes "field-oneof"
 change_code change.Required = codes "field-required"
 change_code change.FreeNumber = codes "number-free"
+change_code change.Unreserved = codes "reserved-removed"
 
 -- the full name of the message with an index
 abbrev pub message_name : Parts → ℕ → List ℕ
@@ -49,10 +51,16 @@ abbrev pub enum_word : Bool → List ℕ
 enum_word true = codes "open enum "
 enum_word false = codes "closed enum "
 
+-- the word before the name of a message, by whether it is an entry of a map
+abbrev pub message_word : Bool → List ℕ
+message_word true = codes "map entry "
+message_word false = codes "message "
+
 -- a kind of a field that stands in a file
 abbrev pub kind_in : Parts → ℕ → KindIndex → List ℕ
 kind_in p file kind.String = string_words (in_proto3 p file)
-kind_in p file (kind.Message m) = codes "message " ++ message_name p m
+kind_in p file (kind.Message m) =
+    message_word (is_some (map_entry_at p m)) ++ message_name p m
 kind_in p file (kind.Group m) = codes "group " ++ message_name p m
 kind_in p file (kind.Enum e) = enum_word (is_open p e) ++ enum_name p e
 kind_in p file other = kind_name other
@@ -112,9 +120,15 @@ joined_words Backward partner oneof = codes "independent of '" ++ (partner
 joined_words Forward partner oneof = codes "exclusive with '" ++ (partner
     ++ (codes "' in the oneof '" ++ (oneof ++ codes "' became independent of it")))
 
+-- what took a number that was reserved: a field or an extension, if one did
+abbrev pub taken_words : Parts → Option Entry → List ℕ
+taken_words p f = option_map_or (λ g. kind_in p g.file g.kind) f (codes "not reserved")
+
 -- both sides of a change, and what is told behind them
 abbrev pub sides_words : Direction → Compared → WireChangeKind → ℕ → List ℕ
 sides_words d c change.Oneof n = joined_words d (partner_name d c n) (oneof_name d c n)
+sides_words d c change.Unreserved n =
+    codes "reserved became " ++ taken_words c.new (new_entry c n)
 sides_words d c k n = both_words c k n ++ behind_words d c k n
 
 -- the text of a change: the full name and the number of what changes, and both sides
@@ -147,3 +161,4 @@ change_note d change.Oneof n = oneof_note d
 change_note d change.Required n = required_note d
 change_note d change.FreeNumber n =
     codes "write 'reserved " ++ (decimal n ++ codes ";', so that no later field takes the number")
+change_note d change.Unreserved n = codes "an older writer may have used it: keep it reserved"

@@ -5,16 +5,16 @@ ghost use Rattle.std.specs.Prelude.{◌≡◌, true, IsTrue, []};
 ghost use Rattle.pool_types.specs.declared.kinds.KindIndex.TheVariants as kind;
 ghost use Rattle.pool_changes.specs.FieldChanges as spec;
 ghost use Rattle.pool_changes.specs.FieldParts.{part, json_side, name_side, repeated_side};
-ghost use Rattle.pool_changes.specs.FieldParts.{presence_side, oneof_side, default_side, is_named};
+ghost use Rattle.pool_changes.specs.FieldParts.{presence_side, oneof_side, is_named};
 ghost use Rattle.pool_changes.specs.Sides.{are_alike, versions, writer, reader};
 
-use crate::fields::{Part, is_map_entry, oneof_in};
+use crate::fields::{Part, first_number, is_map_entry, oneof_in};
 use crate::kept_fields::KeptPart;
 use crate::pools::parts_of;
 use crate::sides::Telling;
 use crate::words::{enum_name, message_name};
 use plain_data::same;
-use pool_types::KindIndex;
+use pool_types::{Cardinality, KindIndex};
 
 /// Whether a kind is that of a message or of an enum, which has a name.
 fn is_named(kind: KindIndex) -> bool
@@ -121,16 +121,17 @@ impl Telling<'_> {
         }
     }
 
-    /// Whether the records of two fields give no default value.
-    #[tactic(auto, using(crate::proofs::Same::default_none))]
-    fn has_no_default(self, field: Part<'_>, kept: Part<'_>) -> bool
-        ensures { IsTrue result → are_alike
-            (default_side (writer (versions self.entry)) (part field.entry))
-            (default_side (reader (versions self.entry)) (part kept.entry)) ≡ true }
+    /// Whether two fields, of which none is given a default value, are read alike where they are
+    /// missing.
+    pub(crate) fn has_first_of(self, field: Part<'_>, kept: Part<'_>) -> bool
+        ensures { result ≡ spec.have_first_alike (versions self.entry) (part field.entry)
+            (part kept.entry) }
     {
-        let before = field.default_text(self.writer());
-        let after = kept.default_text(self.reader());
-        matches!((before, after), (None, None))
+        field.default_text(self.writer()).is_none()
+            && kept.default_text(self.reader()).is_none()
+            && (kept.entry.cardinality == Cardinality::Repeated
+                || first_number(self.writer(), field.entry.kind)
+                    == first_number(self.reader(), kept.entry.kind))
     }
 
     /// Whether nothing changes of a field or an extension at json and at source, as far as is told
@@ -156,6 +157,6 @@ impl Telling<'_> {
         if !self.has_oneof_of(pair) {
             return false;
         }
-        self.has_no_default(before, after)
+        self.has_first_of(before, after)
     }
 }

@@ -1,6 +1,6 @@
 //! What changes at each level, in the order of the writer's items.
 
-ghost use Rattle.std.specs.Prelude.{◌≡◌, ◌++◌, [], IfOk, IsTrue, OnOk, Some, option_map};
+ghost use Rattle.std.specs.Prelude.{◌≡◌, ◌++◌, [], IfOk, IsTrue, None, OnOk, Some, option_map};
 ghost use Rattle.std.specs.List.{flat_map};
 ghost use Rattle.proto_types.specs.Readers.{text_of};
 ghost use Rattle.schema_changes.specs.Changes.{compared};
@@ -15,6 +15,7 @@ ghost use Rattle.pool_changes.specs.FieldChanges.{part_json, part_source};
 ghost use Rattle.pool_changes.specs.FieldParts.{extension_part_at, field_part, part};
 ghost use Rattle.pool_changes.specs.Sides.{both_of, reader, side, versions, writer};
 
+use crate::Direction;
 use crate::alike::is_one_truth;
 use crate::by_level::{BehindWire, ByLevel};
 use crate::fields::{Part, extension_part_at, field_part, part_numbered};
@@ -322,6 +323,25 @@ impl<'a> Telling<'a> {
         self.tell_parts(&mut told.behind, pair)
     }
 
+    /// Appends that the reader lacks a message: at wire, or at source where it is an older version.
+    fn tell_lacked(
+        self,
+        told: &mut ByLevel,
+        before: &MessageDescriptorInner,
+    ) -> Result<(), AllocError>
+        ensures wire { OnOk result (told.new.wire ≡ told.old.wire
+            ++ comparing.message_told (versions self.entry) before.now None) }
+        ensures json { OnOk result (told.new.behind.json ≡ told.old.behind.json
+            ++ spec.message_json (versions self.entry) before.now None) }
+        ensures source { OnOk result (told.new.behind.source ≡ told.old.behind.source
+            ++ spec.message_source (versions self.entry) before.now None) }
+    {
+        match self.direction {
+            Direction::Backward => self.tell_message_removed(&mut told.wire, before),
+            Direction::Forward => self.tell_message_removed(&mut told.behind.source, before),
+        }
+    }
+
     /// Appends what changes of a message of the writer, which has an index, at each level.
     fn tell_message(
         self,
@@ -341,7 +361,7 @@ impl<'a> Telling<'a> {
     {
         match message_near(self.alloc, self.reader(), index, before.id.full_name())? {
             Some(after) => self.tell_kept_message(told, before, after),
-            None => self.tell_message_removed(&mut told.behind.source, before),
+            None => self.tell_lacked(told, before),
         }
     }
 

@@ -1,6 +1,7 @@
 //! A field or an extension of a message, as JSON and code that is made of the schema have it.
 
 ghost use Rattle.std.specs.Prelude.{◌≡◌, is_some, option_map, option_and_then, unwrap_or};
+ghost use Rattle.std.specs.Prelude.{slice_get};
 ghost use Rattle.std.specs.Option.{option_copied};
 ghost use Rattle.schema_changes.specs.MapEntries.{map_entry_at};
 ghost use Rattle.schema_changes.specs.Parts.{parts_of};
@@ -15,8 +16,8 @@ use crate::words::{enum_name, message_name};
 use descriptor_pool::DescriptorPool;
 use plain_data::Text;
 use pool_types::{
-    Cardinality, ExtensionDescriptorInner, FieldDescriptorInner, Identity, KindIndex,
-    MessageDescriptorInner, OneofDescriptorInner,
+    Cardinality, EnumValueDescriptorInner, ExtensionDescriptorInner, FieldDescriptorInner,
+    Identity, KindIndex, MessageDescriptorInner, OneofDescriptorInner,
 };
 use schema_changes::{Entry, extension_entry, field_entry};
 
@@ -236,6 +237,17 @@ impl<'a> Part<'a> {
         Side::there(self.id, word, "")
     }
 
+    /// What it is read as where it is missing, and no default value is given, as a side.
+    fn first(self, pool: &'a DescriptorPool) -> Side<'a>
+        ensures { side result ≡ spec.first_side (spec.part self.entry)
+            (spec.first_value pool.now (spec.part self.entry).entry.kind) }
+    {
+        match first_value(pool, self.entry.kind) {
+            Some(value) => Side::there(self.id, "first value ", value.id.full_name()),
+            None => Side::there(self.id, "no default value", ""),
+        }
+    }
+
     /// The default value that its record gives, if it gives one.
     pub(crate) fn default_text(self, pool: &'a DescriptorPool) -> Option<&'a Text>
         ensures { option_copied result ≡ option_and_then (λ r. r.default_value)
@@ -245,13 +257,13 @@ impl<'a> Part<'a> {
         record.default_value.as_ref()
     }
 
-    /// The default value that its record gives, as a side.
+    /// What it is read as where it is missing, as a side.
     pub(crate) fn default(self, pool: &'a DescriptorPool) -> Side<'a>
         ensures { side result ≡ spec.default_side pool.now (spec.part self.entry) }
     {
         match self.default_text(pool) {
             Some(text) => Side::there(self.id, "default value ", text.as_str()),
-            None => Side::there(self.id, "no default value", ""),
+            None => self.first(pool),
         }
     }
 
@@ -267,6 +279,36 @@ impl<'a> Part<'a> {
             Some(oneof) => Side::there(self.id, "part of ", oneof.id.full_name()),
             None => Side::there(self.id, "part of no oneof", ""),
         }
+    }
+}
+
+/// The first value of the enum with an index.
+fn first_of_enum(pool: &DescriptorPool, index: u32) -> Option<&EnumValueDescriptorInner>
+    ensures { option_copied result ≡ option_and_then (λ x. slice_get x.values 0)
+        (slice_get pool.now.enums index) }
+{
+    let enumeration = pool.enums().get(index as usize)?;
+    enumeration.values.as_slice().get(0)
+}
+
+/// The first value of the enum of a kind, if it is one.
+fn first_value(pool: &DescriptorPool, kind: KindIndex) -> Option<&EnumValueDescriptorInner>
+    ensures { option_copied result ≡ spec.first_value pool.now kind }
+{
+    match kind {
+        KindIndex::Enum(index) => first_of_enum(pool, index),
+        _ => None,
+    }
+}
+
+/// The number that a missing field is read as where no default value is given: that of the first
+/// value of its enum, or 0.
+pub(crate) fn first_number(pool: &DescriptorPool, kind: KindIndex) -> i32
+    ensures { result ≡ spec.first_number pool.now kind }
+{
+    match first_value(pool, kind) {
+        Some(value) => value.number,
+        None => 0,
     }
 }
 

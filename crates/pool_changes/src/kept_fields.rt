@@ -265,7 +265,7 @@ impl Telling<'_> {
         self.tell_differing(told, ElementChange::FieldOneof.between(before, after))
     }
 
-    /// Appends what changes of the default value that its record gives.
+    /// Appends what changes of what it is read as where it is missing.
     fn tell_default(
         self,
         told: &mut Items<ToldFault>,
@@ -274,6 +274,9 @@ impl Telling<'_> {
         ensures { OnOk result (told.new ≡ told.old ++ spec.default_changes
             (versions self.entry) (part pair.now.before) (part pair.now.after)) }
     {
+        if self.has_first_of(pair.before, pair.after) {
+            return Ok(());
+        }
         let before = pair.before.default(self.writer());
         let after = pair.after.default(self.reader());
         self.tell_differing(told, ElementChange::FieldDefault.between(before, after))

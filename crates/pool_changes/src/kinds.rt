@@ -136,9 +136,12 @@ impl ElementChange {
             ElementChange::FileRemoved => {
                 "sources import it: keep it, if only with public imports of other files"
             }
-            ElementChange::MessageRemoved
-            | ElementChange::OneofRemoved
-            | ElementChange::EnumRemoved => "code names it: keep it, and mark it as deprecated",
+            ElementChange::MessageRemoved => {
+                "what was written of it is not read: keep it, and mark it as deprecated"
+            }
+            ElementChange::OneofRemoved | ElementChange::EnumRemoved => {
+                "code names it: keep it, and mark it as deprecated"
+            }
             ElementChange::FieldName => "code names it: leave the name",
             ElementChange::FieldType => "code has values of the other type: leave it",
             ElementChange::FieldPresence

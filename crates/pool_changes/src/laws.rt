@@ -3,23 +3,46 @@ ghost use Rattle.std.specs.Prelude.{◌≡◌, List, []};
 ghost use Rattle.pool_types.specs.Contents.{Contents};
 ghost use Rattle.schema_changes.specs.Pools.{wire_changes};
 ghost use Rattle.pool_changes.specs.Comparing.{changes};
+ghost use Rattle.pool_changes.specs.declared.direction.Direction.{Direction};
 ghost use Rattle.pool_changes.specs.declared.kinds.Level.TheVariants.{Wire};
-ghost use Rattle.pool_changes.specs.Laws.{Chains, FreshNumberIsKept, NoChangeIsRead};
-ghost use Rattle.pool_changes.specs.Laws.{UnchangedIsRead};
+ghost use Rattle.pool_changes.specs.Laws.{Chains, FreshNumberIsKept, NoLossIsRead};
+ghost use Rattle.pool_changes.specs.Laws.{UnchangedIsRead, UntoldIsKept, UntoldIsRead};
+ghost use Rattle.pool_changes.specs.Laws.{UntoldIsUnchanged};
 
 use descriptor_pool::DescriptorPool;
 
-/// Where the list of changes of two pools is empty, what is written of a message by the old one's
-/// schema is read by that of the new one, if it has a message of that name, with the same value of
-/// each field that both have.
-pub fn no_change_is_read(old: &DescriptorPool, new: &DescriptorPool)
-    ensures { NoChangeIsRead old.now new.now }
+/// Where no change of two pools loses anything, what is written of a message by the old one's schema
+/// is read by that of the new one, if it has a message of that name, with the same value of each
+/// field that both have.
+pub fn no_loss_is_read(old: &DescriptorPool, new: &DescriptorPool)
+    ensures { NoLossIsRead old.now new.now }
 {
     old.made();
     new.made();
 }
 
-/// Where nothing changes of a message and of those that it reaches, what is written of it by the
+/// Where nothing is told of two versions in a direction, at any level, what is written of a message
+/// by the schema of the one that writes is read by that of the other, if it has a message of that
+/// name, with the same value of each field that both have.
+pub fn untold_is_read(old: &DescriptorPool, new: &DescriptorPool)
+    ensures { (d : Direction)
+        → UntoldIsRead (record { direction = d; old = old.now; new = new.now }) }
+{
+    old.made();
+    new.made();
+}
+
+/// Where nothing is told backward, at any level, each message of the older version, but the entries
+/// of maps, has one with its name in the new version, which reads what is written of it, with the same
+/// value of each field that both have.
+pub fn untold_is_kept(old: &DescriptorPool, new: &DescriptorPool)
+    ensures { UntoldIsKept old.now new.now }
+{
+    old.made();
+    new.made();
+}
+
+/// Where nothing is lost of a message and of those that it reaches, what is written of it by the
 /// old pool's schema is read by that of the new one, if it has a message of that name, with the
 /// same value of each field that both have.
 pub fn unchanged_is_read(old: &DescriptorPool, new: &DescriptorPool)
@@ -29,17 +52,19 @@ pub fn unchanged_is_read(old: &DescriptorPool, new: &DescriptorPool)
     new.made();
 }
 
-/// Where each pool of a chain changes nothing of the one before, and each number whose field or
-/// extension is removed stays without one, what is written of a message by the first one's schema
-/// is read by that of the last one, if each pool between has a message of that name.
+/// Where nothing is told of each pool of a chain and the one before, what is written of a message by
+/// the first one's schema is read by that of the last one, if each pool between has a message of that
+/// name.
 pub fn chains()
     ensures { (first : Contents) (later : List Contents) → Chains first later }
 {}
 
-/// Where nothing is told at wire, the list of changes of the two pools is empty, which the other
-/// laws go by.
+/// Where nothing is told in a direction, at any level, no change of the two pools is told in it, and
+/// backward there is none, which the other laws go by.
 pub fn untold_is_unchanged(old: &DescriptorPool, new: &DescriptorPool)
-    ensures { changes Wire old.now new.now ≡ [] → wire_changes old.now new.now ≡ [] }
+    ensures told { (d : Direction)
+        → UntoldIsUnchanged (record { direction = d; old = old.now; new = new.now }) }
+    ensures backward { changes Wire old.now new.now ≡ [] → wire_changes old.now new.now ≡ [] }
 {}
 
 /// No pool changes anything of itself.
@@ -50,7 +75,7 @@ pub fn keeps_itself(pool: &DescriptorPool)
 }
 
 /// One more field changes nothing of a message, if no field and no extension of it has its number,
-/// and it is not required.
+/// which is not reserved, and it is not required.
 pub fn fresh_number_is_kept(pool: &DescriptorPool)
     ensures { FreshNumberIsKept pool.now }
 {

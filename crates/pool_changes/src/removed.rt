@@ -43,11 +43,14 @@ pub(crate) struct Kept<'a> {
 }
 
 /// Whether a kind of change is told in a direction: all are, but for an older reader that a number
-/// is free.
+/// is free or was reserved.
 pub(crate) fn is_told(direction: Direction, kind: WireChangeKind) -> bool
     ensures { result ≡ spec.is_told direction kind }
 {
-    direction == Direction::Backward || kind != WireChangeKind::FreeNumber
+    match kind {
+        WireChangeKind::FreeNumber | WireChangeKind::Unreserved => direction == Direction::Backward,
+        _ => true,
+    }
 }
 
 /// Whether two kinds of changes are one.
@@ -61,6 +64,7 @@ fn same_kind(first: WireChangeKind, second: WireChangeKind) -> bool
             | (WireChangeKind::Oneof, WireChangeKind::Oneof)
             | (WireChangeKind::Required, WireChangeKind::Required)
             | (WireChangeKind::FreeNumber, WireChangeKind::FreeNumber)
+            | (WireChangeKind::Unreserved, WireChangeKind::Unreserved)
     )
 }
 

@@ -21,6 +21,7 @@ pub(crate) fn change_code(kind: WireChangeKind) -> &'static str
         WireChangeKind::Oneof => "field-oneof",
         WireChangeKind::Required => "field-required",
         WireChangeKind::FreeNumber => "number-free",
+        WireChangeKind::Unreserved => "reserved-removed",
     }
 }
 
@@ -66,6 +67,13 @@ fn enum_word(is_open: bool) -> &'static str
     }
 }
 
+/// The word before the name of a message, by whether it is an entry of a map.
+fn message_word(is_entry: bool) -> &'static str
+    ensures { result.now ≡ spec.message_word is_entry }
+{
+    if is_entry { "map entry " } else { "message " }
+}
+
 /// A kind of a field that stands in a file.
 fn kind_in(
     alloc: Global,
@@ -78,8 +86,9 @@ fn kind_in(
     match kind {
         KindIndex::String => String::from_str(alloc, string_words(items.in_proto3(file))),
         KindIndex::Message(message) => {
+            let word = message_word(items.map_entry_at(message).is_some());
             let name = message_name(items, message);
-            format!(in alloc; "message {name}")
+            format!(in alloc; "{word}{name}")
         }
         KindIndex::Group(message) => {
             let name = message_name(items, message);
@@ -142,6 +151,16 @@ fn side_words(
     match entry {
         Some(entry) => entry_words(alloc, kind, items, &entry),
         None => String::from_str(alloc, "no field"),
+    }
+}
+
+/// What took a number that was reserved: a field or an extension, if one did.
+fn taken_words(alloc: Global, items: Parts<'_>, entry: Option<Entry>) -> Result<String, AllocError>
+    ensures { IfOk result (λ s. string_bytes s ≡ spec.taken_words (parts items.entry) entry) }
+{
+    match entry {
+        Some(entry) => kind_in(alloc, items, entry.file, entry.kind),
+        None => String::from_str(alloc, "not reserved"),
     }
 }
 
@@ -263,6 +282,13 @@ impl DirectedChange<'_> {
                 let oneof = oneof_name(self.direction, self.sides, self.change.number);
                 joined_words(alloc, self.direction, partner, oneof)
             }
+            WireChangeKind::Unreserved => {
+                let sides = self.sides;
+                let taken = sides.new.entry_numbered(sides.after, self.change.number);
+                let taken = taken_words(alloc, sides.new, taken)?;
+                let taken = taken.as_str();
+                format!(in alloc; "reserved became {taken}")
+            }
             _ => {
                 let both = self.both_words(alloc)?;
                 let both = both.as_str();
@@ -300,6 +326,9 @@ impl DirectedChange<'_> {
             ),
             WireChangeKind::Oneof => String::from_str(alloc, oneof_note(self.direction)),
             WireChangeKind::Required => String::from_str(alloc, required_note(self.direction)),
+            WireChangeKind::Unreserved => {
+                String::from_str(alloc, "an older writer may have used it: keep it reserved")
+            }
         }
     }
 }

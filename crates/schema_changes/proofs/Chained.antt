@@ -1,7 +1,7 @@
 -- Pools that follow one another, and change nothing.
 use Rattle.std.proofs.Common.{◌≡◌, ℕ, zero, suc, ◌+◌, Bool, true, false, ◌&&◌, List, [], ◌∷◌, Option, Some, None, option_map, slice_get, inl, inr, refl, ap, sym, subst, arith}
 use Rattle.std.proofs.lemmas.Bool.{and_parts, and_from, or_cases, or_left, or_right, false≢true}
-use Rattle.std.specs.List.{list_any, enumerate_from}
+use Rattle.std.specs.List.{filter, list_any, enumerate_from}
 use Rattle.pool_types.specs.Contents.{Contents}
 use Rattle.message_values.specs.Values.{Numbered}
 use Rattle.message_values.specs.Reading.{IsRead}
@@ -11,20 +11,19 @@ use Rattle.message_values.specs.Carried.{AreCarried}
 use Rattle.message_values.specs.Steps.{AreJoined, StaysRemoved}
 use Rattle.message_values.proofs.Joined.{all-joined}
 use Rattle.message_values.proofs.Step.{law, keeps-all-own}
+use Rattle.schema_changes.specs.declared.change.MessageChange.{MessageChange}
 use Rattle.schema_changes.specs.declared.entries.Entry.{Entry}
+use Rattle.schema_changes.specs.Changes.{is_lossy}
 use Rattle.schema_changes.specs.Parts.{parts_of}
-use Rattle.schema_changes.specs.Pairs.{are_paired}
+use Rattle.schema_changes.specs.Pairs.{are_matched}
 use Rattle.schema_changes.specs.Entries.{entry_at, field_seen, field_at, schema_of}
 use Rattle.schema_changes.specs.Unchanged.{LookUp}
 use Rattle.schema_changes.specs.Pools.{NamesMean}
-use Rattle.schema_changes.specs.Chains.{last_of, goes_on, AllLookUp, NoneChanges, StaysFree, AllStayFree}
+use Rattle.schema_changes.specs.Chains.{last_of, goes_on, AllLookUp, NoneChanges}
 use Rattle.schema_changes.proofs.Forms.{named_alike}
 use Rattle.schema_changes.proofs.Keeping.{mapped, both-paired}
+use Rattle.schema_changes.proofs.Free.{some-of, stays-free}
 use Rattle.schema_changes.proofs.Named.{pool-kept}
-
-some-of : {A : Type 0} (p : A → Bool) (xs : List A) → list_any p xs ≡ true → (x : A) × (p x ≡ true)
-some-of p [] h = absurd (false≢true h)
-some-of p (x ∷ xs) h = elim (or_cases (p x) (list_any p xs) h) [ inl here ↦ (x, here) | inr more ↦ some-of p xs more ]
 
 any-at : {A : Type 0} (p : ℕ × A → Bool) (from i : ℕ) (xs : List A) (x : A) → slice_get xs i ≡ Some x → ((y : A) → p (from + i, y) ≡ true) → list_any p (enumerate_from from xs) ≡ true
 any-at p from i [] x e h = absurd cc
@@ -45,39 +44,39 @@ none-before p m i h = by (entry_at (parts_of p) m i) h
 joined : (p q : Contents) (qs : List Contents) → AreJoined (named_alike (λ m. true) (parts_of p) (parts_of q)) (goes_on q qs) (goes_on p (q ∷ qs))
 unfolding goes_on
 joined p q qs = record {
-  between = λ m n h. let e = some-of (λ e. are_paired (parts_of p) m (parts_of q) e.0 && goes_on q qs e.0 n) (enumerate_from 0 q.messages) h in
-      let both = and_parts (are_paired (parts_of p) m (parts_of q) (e.0).0) (goes_on q qs (e.0).0 n) e.1 in
+  between = λ m n h. let e = some-of (λ e. are_matched (parts_of p) m (parts_of q) e.0 && goes_on q qs e.0 n) (enumerate_from 0 q.messages) h in
+      let both = and_parts (are_matched (parts_of p) m (parts_of q) (e.0).0) (goes_on q qs (e.0).0 n) e.1 in
       ((e.0).0, and_from true _ refl both.0, both.1);
   joined = λ m k n h i.
-      let name = (and_parts true (are_paired (parts_of p) m (parts_of q) k) h).1 in
+      let name = (and_parts true (are_matched (parts_of p) m (parts_of q) k) h).1 in
       let b = both-paired (parts_of p) (parts_of q) m k name in
       let at : 0 + k ≡ k = omega arith in
-      any-at (λ e. are_paired (parts_of p) m (parts_of q) e.0 && goes_on q qs e.0 n) 0 k q.messages b.1 b.3
-      (λ y. subst (λ j. (are_paired (parts_of p) m (parts_of q) j && goes_on q qs j n) ≡ true) (sym at) (and_from _ _ name i));
+      any-at (λ e. are_matched (parts_of p) m (parts_of q) e.0 && goes_on q qs e.0 n) 0 k q.messages b.1 b.3
+      (λ y. subst (λ j. (are_matched (parts_of p) m (parts_of q) j && goes_on q qs j n) ≡ true) (sym at) (and_from _ _ name i));
 }
 
-removed : (p q : Contents) (qs : List Contents) → StaysFree p q qs → StaysRemoved (named_alike (λ m. true) (parts_of p) (parts_of q)) (goes_on q qs) (schema_of (parts_of p)) (schema_of (parts_of q)) (schema_of (parts_of (last_of q qs)))
-removed p q qs free m k n i F pair on had gone =
+removed : (p q : Contents) (qs : List Contents) → AllLookUp p (q ∷ qs) → NoneChanges p (q ∷ qs) → StaysRemoved (named_alike (λ m. true) (parts_of p) (parts_of q)) (goes_on q qs) (schema_of (parts_of p)) (schema_of (parts_of q)) (schema_of (parts_of (last_of q qs)))
+removed p q qs look none m k n i F pair on had gone =
     let f = mapped (field_seen (parts_of p)) _ F had in
-    ap (option_map (field_seen (parts_of (last_of q qs)))) (free m k n i f.0 (and_parts true (are_paired (parts_of p) m (parts_of q) k) pair).1 on f.1 (none-before q k i gone))
+    ap (option_map (field_seen (parts_of (last_of q qs)))) (stays-free p q qs look none m k n i f.0 (and_parts true (are_matched (parts_of p) m (parts_of q) k) pair).1 on f.1 (none-before q k i gone))
 
 -- the pools that a list has look up
 first-looks : (q : Contents) (qs : List Contents) → AllLookUp q qs → LookUp (parts_of q) × NamesMean q
 first-looks q [] h = h
 first-looks q (r ∷ rs) h = h.0
 
-pub chain-kept : (p : Contents) (qs : List Contents) → AllLookUp p qs → NoneChanges p qs → AllStayFree p qs
+pub chain-kept : (p : Contents) (qs : List Contents) → AllLookUp p qs → NoneChanges p qs
     → KeepsAll (goes_on p qs) (λ m k. false) (schema_of (parts_of p)) (schema_of (parts_of (last_of p qs)))
 unfolding goes_on
-chain-kept p [] look none free = keeps-all-own (schema_of (parts_of p))
-chain-kept p (q ∷ qs) look none free =
+chain-kept p [] look none = keeps-all-own (schema_of (parts_of p))
+chain-kept p (q ∷ qs) look none =
     let first = first-looks q qs look.1 in
     all-joined (schema_of (parts_of p)) (schema_of (parts_of q)) (schema_of (parts_of (last_of q qs))) (named_alike (λ m. true) (parts_of p) (parts_of q)) (goes_on q qs) (goes_on p (q ∷ qs))
     (λ m k. false) (λ m k. false) (λ m k. false)
-    (pool-kept p q (λ m k. false) (look.0).0 first.0 first.1 none.0 (λ m n k h same besides. absurd (false≢true besides)))
-    (chain-kept q qs look.1 none.1 free.1) (joined p q qs) (removed p q qs free.0) (λ m n i g pair e. refl)
+    (pool-kept p q (λ m k. false) (look.0).0 first.0 first.1 (ap (filter (λ (c : MessageChange). is_lossy c.change.kind)) none.0) (λ m n k h same besides. absurd (false≢true besides)))
+    (chain-kept q qs look.1 none.1) (joined p q qs) (removed p q qs look none) (λ m n i g pair e. refl)
 
-pub chain : (p : Contents) (qs : List Contents) → AllLookUp p qs → NoneChanges p qs → AllStayFree p qs → (levels m n : ℕ) → goes_on p qs m n ≡ true → (vs : List Numbered) → IsWritten (schema_of (parts_of p)) (λ m k. false) levels m vs
+pub chain : (p : Contents) (qs : List Contents) → AllLookUp p qs → NoneChanges p qs → (levels m n : ℕ) → goes_on p qs m n ≡ true → (vs : List Numbered) → IsWritten (schema_of (parts_of p)) (λ m k. false) levels m vs
     → IsRead (schema_of (parts_of (last_of p qs))) levels n vs × AreCarried (schema_of (parts_of p)) (schema_of (parts_of (last_of p qs))) levels m n vs
-chain p qs look none free levels m n on vs w =
-    law (schema_of (parts_of p)) (schema_of (parts_of (last_of p qs))) (goes_on p qs) (λ m k. false) (chain-kept p qs look none free) levels m n on vs w
+chain p qs look none levels m n on vs w =
+    law (schema_of (parts_of p)) (schema_of (parts_of (last_of p qs))) (goes_on p qs) (λ m k. false) (chain-kept p qs look none) levels m n on vs w

@@ -1,6 +1,6 @@
 -- A kind that the test lets pass has the values of the old one.
 use Rattle.std.proofs.Common.{◌≡◌, ℕ, zero, suc, inl, inr, ◌^◌, ◌<◌, ℤ, pos, negsuc, Bool, true, false, not, cond, ◌&&◌, ◌||◌, List, [], ◌∷◌, refl, sym, subst, ◌∙◌, arith}
-use Rattle.std.proofs.lemmas.Bool.{ltb-true, lt-ltb, and_parts, and_from, or_cases, or_left, false≢true}
+use Rattle.std.proofs.lemmas.Bool.{ltb-true, lt-ltb, and_parts, and_from, or_cases, or_left, or_right, false≢true}
 use Rattle.std.proofs.lemmas.Bool.Decides.{Decides-int_eq}
 use Rattle.std.specs.List.{list_all}
 use Rattle.std.specs.Option.{option_map_or}
@@ -14,15 +14,15 @@ use Rattle.message_values.specs.Numbers as form
 use Rattle.message_values.specs.Fields.{has_text}
 use Rattle.message_values.specs.Kept.{Pairs, KeepsForm}
 use Rattle.schema_changes.specs.declared.entries.Entry.{Entry}
-use Rattle.schema_changes.specs.Parts.{Parts, in_proto3, is_open, has_value, values_of}
+use Rattle.schema_changes.specs.Parts.{Parts, in_proto3, is_open, has_value, values_of, one_name}
 use Rattle.schema_changes.specs.Entries.{kind_seen, schema_of}
 use Rattle.schema_changes.specs.Kinds.{is_natural, is_bit, holds, holds_all, is_plain, holds_unsigned, keeps_numbers, text_check, keeps_check, messages_of}
-use Rattle.schema_changes.specs.Pairs.{are_paired, keeps_kind}
+use Rattle.schema_changes.specs.Pairs.{are_paired, are_matched, keeps_kind}
 use Rattle.schema_changes.specs.Unchanged.{IsReached}
 
 -- the pairs of some messages
 abbrev pub named_alike : (ℕ → Bool) → Parts → Parts → Pairs
-named_alike reached old new m n = reached m && are_paired old m new n
+named_alike reached old new m n = reached m && are_matched old m new n
 
 same_int : (x y : ℤ) → int_eq x y ≡ true → x ≡ y
 same_int x y h = (Decides-int_eq x y).0 h
@@ -178,8 +178,8 @@ texts-form pairs old new a b _ _ h = absurd (false≢true h)
 
 messages-form : (reached : ℕ → Bool) (old new : Parts) (a b : Bool) (k l : KindIndex) → IsReached reached k → option_map_or (λ e. are_paired old e.0 new e.1) (messages_of k l) false ≡ true
     → KeepsForm (named_alike reached old new) (schema_of old) (kind_seen a k) (form (kind_seen a k)) (schema_of new) (kind_seen b l) (form (kind_seen b l))
-messages-form reached old new a b (index.Message m) (index.Message n) r h = and_from _ _ r h
-messages-form reached old new a b (index.Group m) (index.Group n) r h = and_from _ _ r h
+messages-form reached old new a b (index.Message m) (index.Message n) r h = and_from (reached m) (are_matched old m new n) r (or_right (one_name old m new n) (are_paired old m new n) h)
+messages-form reached old new a b (index.Group m) (index.Group n) r h = and_from (reached m) (are_matched old m new n) r (or_right (one_name old m new n) (are_paired old m new n) h)
 messages-form reached old new a b _ _ r h = absurd (false≢true h)
 
 pub keeps-form : (reached : ℕ → Bool) (old new : Parts) (f g : Entry) → IsReached reached f.kind → keeps_kind old f new g ≡ true

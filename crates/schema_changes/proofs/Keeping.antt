@@ -1,7 +1,7 @@
--- Where nothing changes, the new message keeps the old one.
+-- Where nothing is lost, the new message keeps the old one.
 use Rattle.std.proofs.Common.{◌≡◌, ◌≢◌, ℕ, zero, suc, Bool, true, false, not, cond, eqb, ◌==◌, length, ◌&&◌, ◌||◌, List, [], ◌∷◌, ◌++◌, Option, Some, None, option_map, option_and_then, slice_get, is_some, unwrap_or, flat_map, ◌⊎◌, inl, inr, refl, ap, sym, subst, subst₂, ◌∙◌, arith}
 use Rattle.std.proofs.lemmas.Bool.{and_parts, and_from, eq-eqb, eqb-true, or_cases, or_left, or_right, false≢true, false_from_ne_true}
-use Rattle.std.proofs.lemmas.List.Elements.{All-contains, All-from_recursion}
+use Rattle.std.proofs.lemmas.List.Elements.{All-contains, All-from_recursion, filter-append}
 use Rattle.std.specs.FinMap as finite
 use Rattle.std.specs.Prelude.{⊤}
 use Rattle.std.specs.List.{AllByRecursion, Contains, list_all}
@@ -28,6 +28,7 @@ use Rattle.message_values.specs.Writing.{Besides, IsWritten}
 use Rattle.message_values.specs.Kept.{Pairs, KeepsCardinality, KeepsField, KeepsMessage, KeepsAll}
 use Rattle.message_values.specs.Carried.{AreCarried}
 use Rattle.message_values.proofs.Step.{law}
+use Rattle.schema_changes.specs.declared.change.WireChange.{WireChange}
 use Rattle.schema_changes.specs.declared.change.WireChangeKind.{WireChangeKind}
 use Rattle.schema_changes.specs.declared.change.WireChangeKind.TheVariants as change
 use Rattle.schema_changes.specs.declared.entries.Entry.{Entry}
@@ -35,9 +36,10 @@ use Rattle.schema_changes.specs.Parts.{Parts, in_proto3, are_named_alike, named_
 use Rattle.schema_changes.specs.Entries.{field_entry, extension_entry, extension_at, extension_in, entry_numbered, entry_at, kind_seen, cardinality_seen, field_seen, field_at, schema_of}
 use Rattle.schema_changes.specs.Kinds.{entry_check, keeps_numbers, keeps_check, messages_of, keeps_kind_by, keeps_cardinality, is_repeated, is_required}
 use Rattle.schema_changes.specs.MapEntries.{is_map_entry, map_entry_at, plain_message_at}
-use Rattle.schema_changes.specs.Pairs.{keeps_but_kind, keeps_entry, keeps_part, keeps_number, keeps_parts, keeps_there, keeps_map, are_inner_pairs, keeps_message, are_paired, keeps_kind}
-use Rattle.schema_changes.specs.Changes.{Compared, old_entry, new_entry, unless, kept_changes, entry_changes, old_member, first_some, joined_changes, members_changes, oneof_changes, was_required, required_changes, extension_changes, required_extension_changes, message_changes}
-use Rattle.schema_changes.specs.Unchanged.{LooksUp, LookUp, NothingChanges, IsReached, IsClosed, LeavesOut}
+use Rattle.schema_changes.specs.Pairs.{keeps_but_kind, keeps_entry, keeps_part, keeps_number, leaves_reserved, keeps_parts, keeps_there, are_alike, keeps_map, are_inner_pairs, keeps_message, are_paired, are_matched, keeps_kind}
+use Rattle.schema_changes.specs.Records.{keeps_range, reserved_of}
+use Rattle.schema_changes.specs.Changes.{Compared, old_entry, new_entry, unless, kept_changes, entry_changes, old_member, first_some, joined_changes, members_changes, oneof_changes, was_required, required_changes, taken_changes, added_changes, extension_changes, added_extension_changes, range_changes, message_changes, is_lossy, losses}
+use Rattle.schema_changes.specs.Unchanged.{LooksUp, LookUp, NothingIsLost, IsReached, IsClosed, LeavesOut}
 use Rattle.schema_changes.proofs.Forms.{named_alike, keeps-form}
 
 -- ---- lists that are empty
@@ -54,12 +56,32 @@ pub each-none : {A B : Type 0} (f : A → List B) (xs : List A) → flat_map f x
 each-none f [] h = tt
 each-none f (x ∷ xs) h = (left-none (f x) (flat_map f xs) h, each-none f xs (right-none (f x) (flat_map f xs) h))
 
-five-none : {A : Type 0} (a b c d e : List A) → a ++ (b ++ (c ++ (d ++ e))) ≡ [] → (a ≡ []) × (b ≡ []) × (c ≡ []) × (d ≡ []) × (e ≡ [])
-five-none a b c d e h =
-    let p = right-none a _ h in
-    let q = right-none b _ p in
-    let r = right-none c _ q in
-    (left-none a _ h, left-none b _ p, left-none c _ q, left-none d e r, right-none d e r)
+-- ---- changes of which none loses anything
+
+-- none of some changes loses anything
+abbrev pub Unlost : List WireChange → Type 0
+Unlost changes = losses changes ≡ []
+
+parted : (a b : List WireChange) → losses (a ++ b) ≡ losses a ++ losses b
+parted a b = filter-append (λ (w : WireChange). is_lossy w.kind) a b
+
+pub left-unlost : (a b : List WireChange) → Unlost (a ++ b) → Unlost a
+left-unlost a b h = left-none (losses a) (losses b) (sym (parted a b) ∙ h)
+
+pub right-unlost : (a b : List WireChange) → Unlost (a ++ b) → Unlost b
+right-unlost a b h = right-none (losses a) (losses b) (sym (parted a b) ∙ h)
+
+each-unlost : {A : Type 0} (f : A → List WireChange) (xs : List A) → Unlost (flat_map f xs) → AllByRecursion (λ x. Unlost (f x)) xs
+each-unlost f [] h = tt
+each-unlost f (x ∷ xs) h = (left-unlost (f x) (flat_map f xs) h, each-unlost f xs (right-unlost (f x) (flat_map f xs) h))
+
+five-unlost : (a b c d e f : List WireChange) → Unlost (a ++ (b ++ (c ++ (d ++ (e ++ f))))) → Unlost a × Unlost b × Unlost c × Unlost d × Unlost e
+five-unlost a b c d e f h =
+    let p = right-unlost a (b ++ (c ++ (d ++ (e ++ f)))) h in
+    let q = right-unlost b (c ++ (d ++ (e ++ f))) p in
+    let r = right-unlost c (d ++ (e ++ f)) q in
+    let s = right-unlost d (e ++ f) r in
+    (left-unlost a (b ++ (c ++ (d ++ (e ++ f)))) h, left-unlost b (c ++ (d ++ (e ++ f))) p, left-unlost c (d ++ (e ++ f)) q, left-unlost d (e ++ f) r, left-unlost e f s)
 
 -- what holds of each element, at an index
 pub at-index : {A : Type 0} (P : A → Type 0) (xs : List A) (i : ℕ) (x : A) → AllByRecursion P xs → slice_get xs i ≡ Some x → P x
@@ -70,9 +92,13 @@ at-index P (y ∷ ys) (suc i) x all e = at-index P ys i x all.1 e
 pub at-contained : {A : Type 0} (P : A → Type 0) (xs : List A) (x : A) → AllByRecursion P xs → Contains xs x → P x
 at-contained P xs x all has = All-contains P xs x (All-from_recursion P xs all) has
 
-passed : (ok : Bool) (n : ℕ) (k : WireChangeKind) → unless ok n k ≡ [] → ok ≡ true
-passed true n k h = refl
-passed false n k h = absurd cc
+-- a change that loses something is not there, so its test passes
+passed : (ok : Bool) (n : ℕ) (k : WireChangeKind) → is_lossy k ≡ true → Unlost (unless ok n k) → ok ≡ true
+passed true n k lossy h = refl
+passed false n k lossy h =
+    let c : WireChange = record { number = n; kind = k } in
+    let one : c ∷ [] ≡ [] = sym (ap (λ b. cond b (c ∷ []) []) lossy) ∙ h in
+    absurd cc
 
 pub mapped : {A B : Type 0} (f : A → B) (o : Option A) (y : B) → option_map f o ≡ Some y → (x : A) × (o ≡ Some x) × (f x ≡ y)
 mapped f (Some x) y h = let same : f x ≡ y = cc in (x, refl, same)
@@ -136,7 +162,7 @@ or_of_not false c h e = absurd (false≢true e)
 -- ---- entries
 
 -- where an entry comes from: a field at a position, or an extension that is listed
-data Source (p : Parts) (m : MessageDescriptorInner) (f : Entry) : Type 0 where
+pub data Source (p : Parts) (m : MessageDescriptorInner) (f : Entry) : Type 0 where
   OfField : (i : ℕ) (x : FieldDescriptorInner) → slice_get m.fields i ≡ Some x → field_entry x ≡ f → Source p m f
   OfExtension : (i : ℕ) → Contains m.extensions i → extension_in p m i ≡ Some f → f.oneof ≡ None → Source p m f
 
@@ -162,12 +188,12 @@ source-by p m looks n f None e h =
     let here = ap (option_and_then own) at.2 ∙ ap (λ got. cond (is_some got) None (Some f)) (ap (field_numbered m) number ∙ e) in
     (OfExtension at.0 listed.0 here (sym (ap (λ (g : Entry). g.oneof) x.2)), number)
 
-source : (p : Parts) (m : MessageDescriptorInner) → LooksUp p m → (n : ℕ) (f : Entry) → entry_numbered p m n ≡ Some f → Source p m f × (f.number ≡ n)
+pub source : (p : Parts) (m : MessageDescriptorInner) → LooksUp p m → (n : ℕ) (f : Entry) → entry_numbered p m n ≡ Some f → Source p m f × (f.number ≡ n)
 unfolding entry_numbered
 source p m looks n f h = source-by p m looks n f (field_numbered m n) refl h
 
 -- what holds of each field and of each extension holds of an entry
-by-source : (P : Entry → Type 0) (Q : Option Entry → Type 0) (p : Parts) (m : MessageDescriptorInner) (f : Entry) → AllByRecursion (λ x. P (field_entry x)) m.fields → AllByRecursion (λ i. Q (extension_in p m i)) m.extensions
+pub by-source : (P : Entry → Type 0) (Q : Option Entry → Type 0) (p : Parts) (m : MessageDescriptorInner) (f : Entry) → AllByRecursion (λ x. P (field_entry x)) m.fields → AllByRecursion (λ i. Q (extension_in p m i)) m.extensions
     → ((g : Entry) → Q (Some g) → P g) → Source p m f → P f
 by-source P Q p m f of-fields of-extensions step (OfField i x e same) = subst P same (at-index (λ y. P (field_entry y)) m.fields i x of-fields e)
 by-source P Q p m f of-fields of-extensions step (OfExtension i has e none) = step f (subst Q e (at-contained (λ j. Q (extension_in p m j)) m.extensions i of-extensions has))
@@ -184,12 +210,12 @@ first-is f [] a h = absurd cc
 first-is f (x ∷ xs) a h = first-by f x xs (f x) refl a h (first-is f xs)
 
 -- a member changes nothing by itself, or there is no first one
-joined-at : (c : Compared) (o : Option Entry) (xs : List ℕ) (f : Entry) (i : ℕ) → members_changes c o xs ≡ [] → Contains xs i → old_member c i ≡ Some f
+joined-at : (c : Compared) (o : Option Entry) (xs : List ℕ) (f : Entry) (i : ℕ) → Unlost (members_changes c o xs) → Contains xs i → old_member c i ≡ Some f
     → (o ≡ None) ⊎ ((a : Entry) × (o ≡ Some a) × ((eqb a.number f.number || in_one a.oneof f.oneof) ≡ true))
 joined-at c None xs f i none has e = inl refl
 joined-at c (Some a) xs f i none has e =
-    let at = at-contained (λ j. joined_changes a (old_member c j) ≡ []) xs i (each-none (λ j. joined_changes a (old_member c j)) xs none) has in
-    inr (a, refl, passed _ f.number change.Oneof (subst (λ o. joined_changes a o ≡ []) e at))
+    let at = at-contained (λ j. Unlost (joined_changes a (old_member c j))) xs i (each-unlost (λ j. joined_changes a (old_member c j)) xs none) has in
+    inr (a, refl, passed (eqb a.number f.number || in_one a.oneof f.oneof) f.number change.Oneof refl (subst (λ o. Unlost (joined_changes a o)) e at))
 
 -- a list with a member has a first one
 first-some-at : (f : ℕ → Option Entry) (xs : List ℕ) (i : ℕ) (a : Entry) → first_some f xs ≡ None → Contains xs i → f i ≡ Some a → ⊥
@@ -229,39 +255,42 @@ both-joined k l a f g apart fk gl is-f is-g h i =
       ]
     ]
 
--- ---- a message of which nothing changes
+-- ---- a message of which nothing is lost
 
-module _ (reached : ℕ → Bool) (c : Compared) (looks-old : LooksUp c.old c.before) (looks-new : LooksUp c.new c.after) (reaches : (k : ℕ) (f : Entry) → old_entry c k ≡ Some f → IsReached reached f.kind) (none : message_changes c ≡ []) where
-  lists-none : (flat_map (λ x. entry_changes c (field_entry x)) c.before.fields ≡ []) × (flat_map (λ i. extension_changes c (extension_in c.old c.before i)) c.before.extensions ≡ []) × (flat_map (oneof_changes c) c.after.oneofs ≡ [])
-      × (flat_map (λ x. required_changes c (field_entry x)) c.after.fields ≡ []) × (flat_map (λ i. required_extension_changes c (extension_in c.new c.after i)) c.after.extensions ≡ [])
-  lists-none = five-none _ _ _ _ _ none
+module _ (reached : ℕ → Bool) (c : Compared) (looks-old : LooksUp c.old c.before) (looks-new : LooksUp c.new c.after) (reaches : (k : ℕ) (f : Entry) → old_entry c k ≡ Some f → IsReached reached f.kind) (none : Unlost (message_changes c)) where
+  lists-none : Unlost (flat_map (λ x. entry_changes c (field_entry x)) c.before.fields) × Unlost (flat_map (λ i. extension_changes c (extension_in c.old c.before i)) c.before.extensions) × Unlost (flat_map (oneof_changes c) c.after.oneofs)
+      × Unlost (flat_map (λ x. added_changes c (field_entry x)) c.after.fields) × Unlost (flat_map (λ i. added_extension_changes c (extension_in c.new c.after i)) c.after.extensions)
+  lists-none =
+      five-unlost (flat_map (λ x. entry_changes c (field_entry x)) c.before.fields) (flat_map (λ i. extension_changes c (extension_in c.old c.before i)) c.before.extensions) (flat_map (oneof_changes c) c.after.oneofs)
+      (flat_map (λ x. added_changes c (field_entry x)) c.after.fields) (flat_map (λ i. added_extension_changes c (extension_in c.new c.after i)) c.after.extensions)
+      (flat_map (range_changes c) (reserved_of c.old c.before)) none
 
-  fields-none : AllByRecursion (λ x. entry_changes c (field_entry x) ≡ []) c.before.fields
-  fields-none = each-none (λ x. entry_changes c (field_entry x)) c.before.fields lists-none.0
+  fields-none : AllByRecursion (λ x. Unlost (entry_changes c (field_entry x))) c.before.fields
+  fields-none = each-unlost (λ x. entry_changes c (field_entry x)) c.before.fields lists-none.0
 
-  extensions-none : AllByRecursion (λ i. extension_changes c (extension_in c.old c.before i) ≡ []) c.before.extensions
-  extensions-none = each-none (λ i. extension_changes c (extension_in c.old c.before i)) c.before.extensions lists-none.1
+  extensions-none : AllByRecursion (λ i. Unlost (extension_changes c (extension_in c.old c.before i))) c.before.extensions
+  extensions-none = each-unlost (λ i. extension_changes c (extension_in c.old c.before i)) c.before.extensions lists-none.1
 
-  oneofs-none : AllByRecursion (λ o. oneof_changes c o ≡ []) c.after.oneofs
-  oneofs-none = each-none (oneof_changes c) c.after.oneofs lists-none.2
+  oneofs-none : AllByRecursion (λ o. Unlost (oneof_changes c o)) c.after.oneofs
+  oneofs-none = each-unlost (oneof_changes c) c.after.oneofs lists-none.2
 
-  required-none : AllByRecursion (λ x. required_changes c (field_entry x) ≡ []) c.after.fields
-  required-none = each-none (λ x. required_changes c (field_entry x)) c.after.fields lists-none.3
+  required-none : AllByRecursion (λ x. Unlost (added_changes c (field_entry x))) c.after.fields
+  required-none = each-unlost (λ x. added_changes c (field_entry x)) c.after.fields lists-none.3
 
-  required-extensions-none : AllByRecursion (λ i. required_extension_changes c (extension_in c.new c.after i) ≡ []) c.after.extensions
-  required-extensions-none = each-none (λ i. required_extension_changes c (extension_in c.new c.after i)) c.after.extensions lists-none.4
+  required-extensions-none : AllByRecursion (λ i. Unlost (added_extension_changes c (extension_in c.new c.after i))) c.after.extensions
+  required-extensions-none = each-unlost (λ i. added_extension_changes c (extension_in c.new c.after i)) c.after.extensions lists-none.4
 
-  kept-at : (k : ℕ) (f g : Entry) → old_entry c k ≡ Some f → new_entry c k ≡ Some g → kept_changes c f (Some g) ≡ []
+  kept-at : (k : ℕ) (f g : Entry) → old_entry c k ≡ Some f → new_entry c k ≡ Some g → Unlost (kept_changes c f (Some g))
   kept-at k f g e eg =
       let s = source c.old c.before looks-old k f e in
-      let h = by-source (λ y. entry_changes c y ≡ []) (λ o. extension_changes c o ≡ []) c.old c.before f fields-none extensions-none (λ y q. q) s.0 in
-      subst (λ o. kept_changes c f o ≡ []) (ap (new_entry c) s.1 ∙ eg) h
+      let h = by-source (λ y. Unlost (entry_changes c y)) (λ o. Unlost (extension_changes c o)) c.old c.before f fields-none extensions-none (λ y q. q) s.0 in
+      subst (λ o. Unlost (kept_changes c f o)) (ap (new_entry c) s.1 ∙ eg) h
 
   entry-kept : (k : ℕ) (f g : Entry) → old_entry c k ≡ Some f → new_entry c k ≡ Some g → KeepsField (named_alike reached c.old c.new) (schema_of c.old) (schema_of c.new) (field_seen c.old f) (field_seen c.new g)
   entry-kept k f g e eg =
       let h = kept-at k f g e eg in
-      let kind : keeps_kind c.old f c.new g ≡ true = passed _ f.number change.Kind (left-none _ _ h) in
-      let card : keeps_cardinality f.kind f.cardinality g.cardinality ≡ true = passed _ f.number change.Cardinality (right-none (unless (keeps_kind c.old f c.new g) f.number change.Kind) _ h) in
+      let kind : keeps_kind c.old f c.new g ≡ true = passed (keeps_kind c.old f c.new g) f.number change.Kind refl (left-unlost (unless (keeps_kind c.old f c.new g) f.number change.Kind) (unless (keeps_cardinality f.kind f.cardinality g.cardinality) f.number change.Cardinality) h) in
+      let card : keeps_cardinality f.kind f.cardinality g.cardinality ≡ true = passed (keeps_cardinality f.kind f.cardinality g.cardinality) f.number change.Cardinality refl (right-unlost (unless (keeps_kind c.old f c.new g) f.number change.Kind) (unless (keeps_cardinality f.kind f.cardinality g.cardinality) f.number change.Cardinality) h) in
       record {
         kind = keeps-form reached c.old c.new f g (reaches k f e) kind;
         cardinality = cardinality-by (form (kind_seen (in_proto3 c.old f.file) f.kind)) (is_message f.kind) f.cardinality g.cardinality (has-messages (in_proto3 c.old f.file) f.kind) card;
@@ -291,7 +320,7 @@ module _ (reached : ℕ → Bool) (c : Compared) (looks-old : LooksUp c.old c.be
       let w = in-oneof k g o eg eo in
       let w' = in-oneof l g' o eg' eo' in
       let one : w'.0 ≡ w.0 = (let two : Some w'.0 ≡ Some w.0 = sym w'.2 ∙ w.2 in cc) in
-      let none-here = at-index (λ v. oneof_changes c v ≡ []) c.after.oneofs o w.0 oneofs-none w.2 in
+      let none-here = at-index (λ v. Unlost (oneof_changes c v)) c.after.oneofs o w.0 oneofs-none w.2 in
       let first = first_some (old_member c) (w.0).fields in
       let has' : Contains (w.0).fields w'.1 = subst (λ (v : OneofDescriptorInner). Contains v.fields w'.1) one w'.3 in
       let mine : old_member c w.1 ≡ Some f = w.4 ∙ e in
@@ -318,8 +347,8 @@ module _ (reached : ℕ → Bool) (c : Compared) (looks-old : LooksUp c.old c.be
   required-at : (k : ℕ) (g : Entry) → new_entry c k ≡ Some g → is_required g.cardinality ≡ true → (f : Entry) × (old_entry c k ≡ Some f) × (is_required f.cardinality ≡ true)
   required-at k g eg needs =
       let s = source c.new c.after looks-new k g eg in
-      let h = by-source (λ y. required_changes c y ≡ []) (λ o. required_extension_changes c o ≡ []) c.new c.after g required-none required-extensions-none (λ y q. q) s.0 in
-      let was = was-some (old_entry c g.number) (or_of_not (is_required g.cardinality) _ (passed _ g.number change.Required h) needs) in
+      let h = by-source (λ y. Unlost (added_changes c y)) (λ o. Unlost (added_extension_changes c o)) c.new c.after g required-none required-extensions-none (λ y q. q) s.0 in
+      let was = was-some (old_entry c g.number) (or_of_not (is_required g.cardinality) _ (passed (not (is_required g.cardinality) || was_required (old_entry c g.number)) g.number change.Required refl (left-unlost (required_changes c g) (taken_changes c g) h)) needs) in
       (was.0, ap (old_entry c) (sym s.1) ∙ was.1, was.2)
 
 -- ---- the entries of the message with an index
@@ -341,7 +370,7 @@ left-out besides new n free k G eg =
 -- ---- the messages with two indexes
 
 module _ (reached : ℕ → Bool) (old new : Parts) (m n : ℕ) (x y : MessageDescriptorInner) (at-x : slice_get old.messages m ≡ Some x) (at-y : slice_get new.messages n ≡ Some y) (looks-old : LooksUp old x) (looks-new : LooksUp new y)
-    (reaches : (k : ℕ) (f : Entry) → entry_at old m k ≡ Some f → IsReached reached f.kind) (besides : Besides) (free : (k : ℕ) → besides m k ≡ true → entry_at new n k ≡ None) (none : message_changes (record { old = old; before = x; new = new; after = y }) ≡ []) where
+    (reaches : (k : ℕ) (f : Entry) → entry_at old m k ≡ Some f → IsReached reached f.kind) (besides : Besides) (free : (k : ℕ) → besides m k ≡ true → entry_at new n k ≡ None) (none : Unlost (message_changes (record { old = old; before = x; new = new; after = y }))) where
   abbrev c : Compared
   c = record { old = old; before = x; new = new; after = y }
 
@@ -397,16 +426,21 @@ kind-wider P Q old new f g wider h =
     by (Some e) is = wider e.0 e.1 is
     by None is = absurd (false≢true is)
 
-named-paired : (old new : Parts) (m n : ℕ) → one_name old m new n ≡ true → are_paired old m new n ≡ true
+alike-paired : (old new : Parts) (m n : ℕ) → are_alike old m new n ≡ true → are_paired old m new n ≡ true
 unfolding are_paired
-named-paired old new m n named = or_left (one_name old m new n || keeps_map old m new n) (keeps_message old m new n) (or_left (one_name old m new n) (keeps_map old m new n) named)
+alike-paired old new m n alike = or_left (are_alike old m new n || keeps_map old m new n) (keeps_message old m new n) (or_left (are_alike old m new n) (keeps_map old m new n) alike)
+
+-- messages that are alike have one name
+alike-named : (old new : Parts) (m n : ℕ) → are_alike old m new n ≡ true → one_name old m new n ≡ true
+unfolding are_alike
+alike-named old new m n alike = (and_parts (one_name old m new n) (cond (is_some (map_entry_at old m)) (is_some (map_entry_at new n)) (is_none (map_entry_at new n))) alike).0
 
 map-paired : (old new : Parts) (m n : ℕ) → keeps_map old m new n ≡ true → are_paired old m new n ≡ true
 unfolding are_paired
-map-paired old new m n map = or_left (one_name old m new n || keeps_map old m new n) (keeps_message old m new n) (or_right (one_name old m new n) (keeps_map old m new n) map)
+map-paired old new m n map = or_left (are_alike old m new n || keeps_map old m new n) (keeps_message old m new n) (or_right (are_alike old m new n) (keeps_map old m new n) map)
 
 -- messages of a pair have one name, or keep each other by a test that only pairs pass
-data Paired (old new : Parts) (m n : ℕ) : Type 0 where
+pub data Paired (old new : Parts) (m n : ℕ) : Type 0 where
   ByName : one_name old m new n ≡ true → Paired old new m n
   ByParts : (P : Pairs) (x y : MessageDescriptorInner) → ((a b : ℕ) → P a b ≡ true → are_paired old a new b ≡ true)
       → slice_get old.messages m ≡ Some x → slice_get new.messages n ≡ Some y → keeps_parts P old x new y ≡ true → Paired old new m n
@@ -441,8 +475,8 @@ plain-there p m x h =
 by-map : (old new : Parts) (m n : ℕ) → keeps_map old m new n ≡ true → Paired old new m n
 unfolding keeps_map
 by-map old new m n h =
-    let there = kept-there (λ a b. one_name old a new b) old new (map_entry_at old m) (map_entry_at new n) h in
-    ByParts (λ a b. one_name old a new b) there.0 there.1 (named-paired old new) (entry-there old m there.0 there.2) (entry-there new n there.1 there.3) there.4
+    let there = kept-there (λ a b. are_alike old a new b) old new (map_entry_at old m) (map_entry_at new n) h in
+    ByParts (λ a b. are_alike old a new b) there.0 there.1 (alike-paired old new) (entry-there old m there.0 there.2) (entry-there new n there.1 there.3) there.4
 
 by-message : (old new : Parts) (m n : ℕ) → are_paired old m new n ≡ true → keeps_message old m new n ≡ true → Paired old new m n
 unfolding keeps_message
@@ -452,9 +486,9 @@ by-message old new m n pair h =
   where
     inner : (a b : ℕ) → are_inner_pairs old m new n a b ≡ true → are_paired old a new b ≡ true
     inner a b is =
-        elim (or_cases (one_name old a new b || keeps_map old a new b) (a == m && b == n) is) [
-          | inl known ↦ elim (or_cases (one_name old a new b) (keeps_map old a new b) known) [
-            | inl named ↦ named-paired old new a b named
+        elim (or_cases (are_alike old a new b || keeps_map old a new b) (a == m && b == n) is) [
+          | inl known ↦ elim (or_cases (are_alike old a new b) (keeps_map old a new b) known) [
+            | inl alike ↦ alike-paired old new a b alike
             | inr map ↦ map-paired old new a b map
           ]
           | inr same ↦
@@ -465,36 +499,76 @@ by-message old new m n pair h =
 pair-cases : (old new : Parts) (m n : ℕ) → are_paired old m new n ≡ true → Paired old new m n
 unfolding are_paired
 pair-cases old new m n h =
-    elim (or_cases (one_name old m new n || keeps_map old m new n) (keeps_message old m new n) h) [
-      | inl known ↦ elim (or_cases (one_name old m new n) (keeps_map old m new n) known) [
-        | inl named ↦ ByName named
+    elim (or_cases (are_alike old m new n || keeps_map old m new n) (keeps_message old m new n) h) [
+      | inl known ↦ elim (or_cases (are_alike old m new n) (keeps_map old m new n) known) [
+        | inl alike ↦ ByName (alike-named old new m n alike)
         | inr map ↦ by-map old new m n map
       ]
       | inr kept ↦ by-message old new m n h kept
     ]
+
+pub match-cases : (old new : Parts) (m n : ℕ) → are_matched old m new n ≡ true → Paired old new m n
+match-cases old new m n h =
+    elim (or_cases (one_name old m new n) (are_paired old m new n) h) [
+      | inl named ↦ ByName named
+      | inr pair ↦ pair-cases old new m n pair
+    ]
+
+-- ---- the parts of messages of which the new one keeps the old one
+
+module _ (P : Pairs) (old : Parts) (x : MessageDescriptorInner) (new : Parts) (y : MessageDescriptorInner) (keeps : keeps_parts P old x new y ≡ true) where
+  abbrev alone : Bool
+  alone = length x.extensions == 0 && length y.extensions == 0
+
+  abbrev each-part : Bool
+  each-part = list_all (λ z. keeps_part P old x new (field_entry z)) y.fields
+
+  abbrev numbers : Bool
+  numbers = list_all (keeps_number new y) x.fields
+
+  abbrev ranges : Bool
+  ranges = list_all (keeps_range new y) (reserved_of old x)
+
+  whole : (alone && each-part && numbers && ranges) ≡ true
+  unfolding keeps_parts
+  whole = keeps
+
+  but-ranges : ((alone && each-part && numbers) ≡ true) × (ranges ≡ true)
+  but-ranges = and_parts (alone && each-part && numbers) ranges whole
+
+  but-numbers : ((alone && each-part) ≡ true) × (numbers ≡ true)
+  but-numbers = and_parts (alone && each-part) numbers but-ranges.0
+
+  but-parts : (alone ≡ true) × (each-part ≡ true)
+  but-parts = and_parts alone each-part but-numbers.0
+
+  pub no-extension : (i : ℕ) → Contains y.extensions i → ⊥
+  no-extension i has = none-contained y.extensions i (and_parts (length x.extensions == 0) (length y.extensions == 0) but-parts.0).1 has
+
+  pub no-old-extension : (i : ℕ) → Contains x.extensions i → ⊥
+  no-old-extension i has = none-contained x.extensions i (and_parts (length x.extensions == 0) (length y.extensions == 0) but-parts.0).0 has
+
+  pub part-kept : (i : ℕ) (z : FieldDescriptorInner) → slice_get y.fields i ≡ Some z → keeps_part P old x new (field_entry z) ≡ true
+  part-kept i z at = all-at (λ z. keeps_part P old x new (field_entry z)) y.fields i z but-parts.1 at
+
+  pub number-kept : (i : ℕ) (z : FieldDescriptorInner) → slice_get x.fields i ≡ Some z → keeps_number new y z ≡ true
+  number-kept i z at = all-at (keeps_number new y) x.fields i z but-numbers.1 at
+
+  pub ranges-kept : list_all (keeps_range new y) (reserved_of old x) ≡ true
+  ranges-kept = but-ranges.1
 
 module _ (reached : ℕ → Bool) (old new : Parts) (m n : ℕ) (x y : MessageDescriptorInner) (at-x : slice_get old.messages m ≡ Some x) (at-y : slice_get new.messages n ≡ Some y) (looks-new : LooksUp new y)
     (reaches : (k : ℕ) (f : Entry) → entry_at old m k ≡ Some f → IsReached reached f.kind) (besides : Besides) (free : (k : ℕ) → besides m k ≡ true → entry_at new n k ≡ None)
     (P : Pairs) (paired : (a b : ℕ) → P a b ≡ true → are_paired old a new b ≡ true) (keeps : keeps_parts P old x new y ≡ true) where
   -- what each part of the new message keeps
   part-at : (k : ℕ) (g : Entry) → entry_numbered new y k ≡ Some g → keeps_entry P old (entry_numbered old x k) new g ≡ true
-  unfolding keeps_parts
   part-at k g eg = by (source new y looks-new k g eg).0 (source new y looks-new k g eg).1
     where
-      alone : Bool
-      alone = length x.extensions == 0 && length y.extensions == 0
-
-      kept : Bool
-      kept = list_all (λ z. keeps_part P old x new (field_entry z)) y.fields
-
-      both : (alone ≡ true) × (kept ≡ true)
-      both = and_parts alone kept (and_parts (alone && kept) (list_all (keeps_number new y) x.fields) keeps).0
-
       by : Source new y g → g.number ≡ k → keeps_entry P old (entry_numbered old x k) new g ≡ true
       by (OfField i z at same) number =
-          let part = subst (λ e. keeps_part P old x new e ≡ true) same (all-at (λ z. keeps_part P old x new (field_entry z)) y.fields i z both.1 at) in
-          subst (λ k. keeps_entry P old (entry_numbered old x k) new g ≡ true) number part
-      by (OfExtension i has at nothing) number = absurd (none-contained y.extensions i (and_parts (length x.extensions == 0) (length y.extensions == 0) both.0).1 has)
+          let part = subst (λ e. keeps_part P old x new e ≡ true) same (part-kept P old x new y keeps i z at) in
+          subst (λ k. keeps_entry P old (entry_numbered old x k) new g ≡ true) number (and_parts (keeps_entry P old (entry_numbered old x g.number) new g) (leaves_reserved old x g) part).0
+      by (OfExtension i has at nothing) number = absurd (no-extension P old x new y keeps i has)
 
   kept-part : (k : ℕ) (f g : Entry) → entry_numbered old x k ≡ Some f → entry_numbered new y k ≡ Some g
       → (keeps_kind_by P old f new g ≡ true) × (keeps_cardinality f.kind f.cardinality g.cardinality ≡ true) × ((is_none g.oneof || in_one f.oneof g.oneof) ≡ true)
@@ -570,19 +644,19 @@ unfolding one_name
 both-named old new m n h = both-at old new m n (slice_get old.messages m) refl h
 
 -- the messages of a pair are there
-pub both-paired : (old new : Parts) (m n : ℕ) → are_paired old m new n ≡ true → (x : MessageDescriptorInner) × (y : MessageDescriptorInner) × (slice_get old.messages m ≡ Some x) × (slice_get new.messages n ≡ Some y)
-both-paired old new m n pair = by (pair-cases old new m n pair)
+pub both-paired : (old new : Parts) (m n : ℕ) → are_matched old m new n ≡ true → (x : MessageDescriptorInner) × (y : MessageDescriptorInner) × (slice_get old.messages m ≡ Some x) × (slice_get new.messages n ≡ Some y)
+both-paired old new m n pair = by (match-cases old new m n pair)
   where
     by : Paired old new m n → (x : MessageDescriptorInner) × (y : MessageDescriptorInner) × (slice_get old.messages m ≡ Some x) × (slice_get new.messages n ≡ Some y)
     by (ByName named) = let b = both-named old new m n named in (b.0, b.1, b.2, b.3)
     by (ByParts P x y paired at-x at-y keeps) = (x, y, at-x, at-y)
 
-pub keeps-all : (old new : Parts) (reached : ℕ → Bool) (besides : Besides) → LookUp old → LookUp new → IsClosed old reached → NothingChanges old new reached → LeavesOut old new reached besides
+pub keeps-all : (old new : Parts) (reached : ℕ → Bool) (besides : Besides) → LookUp old → LookUp new → IsClosed old reached → NothingIsLost old new reached → LeavesOut old new reached besides
     → KeepsAll (named_alike reached old new) besides (schema_of old) (schema_of new)
-keeps-all old new reached besides look-old look-new closed none free m n pair = by (pair-cases old new m n p.1)
+keeps-all old new reached besides look-old look-new closed none free m n pair = by (match-cases old new m n p.1)
   where
-    p : (reached m ≡ true) × (are_paired old m new n ≡ true)
-    p = and_parts (reached m) (are_paired old m new n) pair
+    p : (reached m ≡ true) × (are_matched old m new n ≡ true)
+    p = and_parts (reached m) (are_matched old m new n) pair
 
     by : Paired old new m n → KeepsMessage (named_alike reached old new) besides (schema_of old) (schema_of new) m n
     by (ByName named) =
@@ -591,8 +665,8 @@ keeps-all old new reached besides look-old look-new closed none free m n pair = 
     by (ByParts P x y paired at-x at-y keeps) =
         keeps-pair reached old new m n x y at-x at-y (look-new n y at-y) (λ k f e. closed m k f p.0 e) besides (λ k. free m n k p.0 p.1) P paired keeps
 
-pub unchanged : (old new : Parts) (reached : ℕ → Bool) (besides : Besides) → LookUp old → LookUp new → IsClosed old reached → NothingChanges old new reached → LeavesOut old new reached besides
+pub unchanged : (old new : Parts) (reached : ℕ → Bool) (besides : Besides) → LookUp old → LookUp new → IsClosed old reached → NothingIsLost old new reached → LeavesOut old new reached besides
     → (levels m n : ℕ) → reached m ≡ true → one_name old m new n ≡ true → (vs : List Numbered) → IsWritten (schema_of old) besides levels m vs
     → IsRead (schema_of new) levels n vs × AreCarried (schema_of old) (schema_of new) levels m n vs
 unchanged old new reached besides look-old look-new closed none free levels m n here same vs w =
-    law (schema_of old) (schema_of new) (named_alike reached old new) besides (keeps-all old new reached besides look-old look-new closed none free) levels m n (and_from (reached m) _ here (named-paired old new m n same)) vs w
+    law (schema_of old) (schema_of new) (named_alike reached old new) besides (keeps-all old new reached besides look-old look-new closed none free) levels m n (and_from (reached m) (are_matched old m new n) here (or_left (one_name old m new n) (are_paired old m new n) same)) vs w

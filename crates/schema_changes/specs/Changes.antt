@@ -1,11 +1,14 @@
 -- What changes of a message, so that bytes are read otherwise.
 use Rattle.std.specs.Prelude.{ℕ, Bool, true, false, not, ◌||◌, List, [], ◌∷◌, ◌++◌, Option, Some}
 use Rattle.std.specs.Prelude.{None, option_and_then, slice_get, ◌==◌}
-use Rattle.std.specs.List.{flat_map}
-use Rattle.std.specs.Option.{option_or}
+use Rattle.std.specs.List.{filter, flat_map}
+use Rattle.std.specs.Option.{option_map_or, option_or}
 use Rattle.pool_types.specs.declared.contents.message.MessageDescriptorInner.{MessageDescriptorInner}
 use Rattle.pool_types.specs.declared.contents.oneof.OneofDescriptorInner.{OneofDescriptorInner}
+use Rattle.field_rules.specs.Maps.{item_number}
 use Rattle.message_values.specs.Fields.{in_one}
+use Rattle.proto_types.specs.Readers.{number_of}
+use Rattle.proto_types.specs.declared.message.ReservedRange.{ReservedRange}
 use Rattle.schema_changes.specs.declared.change.WireChange.{WireChange}
 use Rattle.schema_changes.specs.declared.change.WireChangeKind.{WireChangeKind}
 use Rattle.schema_changes.specs.declared.change.WireChangeKind.TheVariants as change
@@ -14,8 +17,8 @@ use Rattle.schema_changes.specs.declared.entries.Entry.{Entry}
 use Rattle.schema_changes.specs.Parts.{Parts, parts}
 use Rattle.schema_changes.specs.Entries.{field_entry, extension_in, entry_numbered}
 use Rattle.schema_changes.specs.Kinds.{keeps_cardinality, is_required}
-use Rattle.schema_changes.specs.Pairs.{keeps_kind}
-use Rattle.schema_changes.specs.Records.{is_kept_free}
+use Rattle.schema_changes.specs.Pairs.{keeps_kind, leaves_reserved}
+use Rattle.schema_changes.specs.Records.{is_kept_free, keeps_range, reserved_of}
 
 -- an old and a new message that are compared, each with the items of its pool
 pub record Compared : Type 0 where
@@ -40,6 +43,17 @@ old_entry c n = entry_numbered c.old c.before n
 -- the new entry with a number
 abbrev pub new_entry : Compared → ℕ → Option Entry
 new_entry c n = entry_numbered c.new c.after n
+
+-- whether a kind of change loses what is written: each does, but that a number comes free or was
+-- reserved, which loses only what still older versions have written
+abbrev pub is_lossy : WireChangeKind → Bool
+is_lossy change.FreeNumber = false
+is_lossy change.Unreserved = false
+is_lossy _ = true
+
+-- the changes by which what is written is lost
+abbrev pub losses : List WireChange → List WireChange
+losses changes = filter (λ w. is_lossy w.kind) changes
 
 -- a change, unless a test passes
 abbrev pub unless : Bool → ℕ → WireChangeKind → List WireChange
@@ -95,23 +109,42 @@ required_changes c g =
     unless (not (is_required g.cardinality) || was_required (old_entry c g.number)) g.number
     change.Required
 
+-- that a new entry takes a number that was reserved
+abbrev pub taken_changes : Compared → Entry → List WireChange
+taken_changes c g = unless (leaves_reserved c.old c.before g) g.number change.Unreserved
+
+-- what a new entry changes besides what it keeps of the old one with its number
+abbrev pub added_changes : Compared → Entry → List WireChange
+added_changes c g = required_changes c g ++ taken_changes c g
+
 -- what the new entry with its number changes of the old extension with an index
 abbrev pub extension_changes : Compared → Option Entry → List WireChange
 extension_changes c None = []
 extension_changes c (Some f) = entry_changes c f
 
--- whether the new extension with an index is required, and was not
-abbrev pub required_extension_changes : Compared → Option Entry → List WireChange
-required_extension_changes c None = []
-required_extension_changes c (Some g) = required_changes c g
+-- what the new extension with an index changes besides
+abbrev pub added_extension_changes : Compared → Option Entry → List WireChange
+added_extension_changes c None = []
+added_extension_changes c (Some g) = added_changes c g
 
--- the changes of a message: of each old field and each old extension, of each new oneof, and then
--- of each new field and each new extension
+-- whether the new entry with a number takes one that was reserved, which is told of the entry
+abbrev pub is_taken : Compared → ℕ → Bool
+is_taken c n = option_map_or (λ g. not (leaves_reserved c.old c.before g)) (new_entry c n) false
+
+-- that a range of numbers was reserved, and isn't now: told by its first number, unless that is
+-- taken
+abbrev pub range_changes : Compared → ReservedRange → List WireChange
+range_changes c r =
+    let n = item_number (number_of r.start) in
+    unless (keeps_range c.new c.after r || is_taken c n) n change.Unreserved
+
+-- the changes of a message: of each old field and each old extension, of each new oneof, of each new
+-- field and each new extension, and then of each range that was reserved
 abbrev pub message_changes : Compared → List WireChange
 message_changes c =
     flat_map (λ f. entry_changes c (field_entry f)) c.before.fields
     ++ (flat_map (λ i. extension_changes c (extension_in c.old c.before i)) c.before.extensions
     ++ (flat_map (oneof_changes c) c.after.oneofs
-    ++ (flat_map (λ g. required_changes c (field_entry g)) c.after.fields
-    ++ flat_map (λ i. required_extension_changes c (extension_in c.new c.after i))
-    c.after.extensions)))
+    ++ (flat_map (λ g. added_changes c (field_entry g)) c.after.fields
+    ++ (flat_map (λ i. added_extension_changes c (extension_in c.new c.after i)) c.after.extensions
+    ++ flat_map (range_changes c) (reserved_of c.old c.before)))))

@@ -2,6 +2,7 @@
 use Rattle.std.specs.Prelude.{◌≡◌, ℕ, suc, List, [], ◌∷◌, ◌++◌, Option, Some, None, map, slice_get}
 use Rattle.std.specs.Prelude.{option_and_then}
 use Rattle.std.specs.FinMap as finite
+use Rattle.std.specs.List.{filter}
 use Rattle.pool_types.specs.Contents.{Contents}
 use Rattle.pool_types.specs.declared.contents.definition.DefinitionKind.{DefinitionKind}
 use Rattle.pool_types.specs.declared.contents.definition.DefinitionKind.TheVariants as definition
@@ -9,7 +10,7 @@ use Rattle.pool_types.specs.declared.contents.message.MessageDescriptorInner.{Me
 use Rattle.schema_changes.specs.declared.change.WireChange.{WireChange}
 use Rattle.schema_changes.specs.declared.change.MessageChange.{MessageChange}
 use Rattle.schema_changes.specs.Parts.{parts_of}
-use Rattle.schema_changes.specs.Changes.{message_changes}
+use Rattle.schema_changes.specs.Changes.{message_changes, is_lossy}
 
 -- the message of a pool that a definition is
 abbrev pub message_meant : Contents → DefinitionKind → Option MessageDescriptorInner
@@ -43,6 +44,10 @@ changes_from old new m (x ∷ xs) =
 -- the changes of all messages, in the order of the old ones
 abbrev pub wire_changes : Contents → Contents → List MessageChange
 wire_changes old new = changes_from old new 0 old.messages
+
+-- those of them by which what is written is lost
+abbrev pub wire_losses : Contents → Contents → List MessageChange
+wire_losses old new = filter (λ c. is_lossy c.change.kind) (wire_changes old new)
 
 -- the full name of each message of a pool means that message
 abbrev pub NamesMean : Contents → Type 0

@@ -1,4 +1,4 @@
--- Messages of which nothing changes.
+-- Messages of which nothing is lost.
 use Rattle.std.specs.Prelude.{◌≡◌, ℕ, Bool, true, [], Some, None, slice_get, option_map, ⊤}
 use Rattle.std.specs.FinMap as finite
 use Rattle.std.specs.List.{Contains}
@@ -10,9 +10,9 @@ use Rattle.pool_types.specs.declared.contents.oneof.OneofDescriptorInner.{OneofD
 use Rattle.message_values.specs.Writing.{Besides}
 use Rattle.schema_changes.specs.declared.entries.Entry.{Entry}
 use Rattle.schema_changes.specs.Parts.{Parts, one_name}
-use Rattle.schema_changes.specs.Pairs.{are_paired}
+use Rattle.schema_changes.specs.Pairs.{are_matched}
 use Rattle.schema_changes.specs.Entries.{entry_at}
-use Rattle.schema_changes.specs.Changes.{message_changes}
+use Rattle.schema_changes.specs.Changes.{message_changes, losses}
 
 -- the maps of a message lead from a number to the field and to the extension that have it, and a
 -- field that is in a oneof is listed there
@@ -29,12 +29,12 @@ pub record LooksUp (p : Parts) (m : MessageDescriptorInner) : Type 0 where
 abbrev pub LookUp : Parts → Type 0
 LookUp p = (n : ℕ) (m : MessageDescriptorInner) → slice_get p.messages n ≡ Some m → LooksUp p m
 
--- nothing changes of each message of some old ones and the new one with its name
-abbrev pub NothingChanges : Parts → Parts → (ℕ → Bool) → Type 0
-NothingChanges old new reached =
+-- no change loses anything of each message of some old ones and the new one with its name
+abbrev pub NothingIsLost : Parts → Parts → (ℕ → Bool) → Type 0
+NothingIsLost old new reached =
     (m n : ℕ) (x y : MessageDescriptorInner) → reached m ≡ true → one_name old m new n ≡ true
     → slice_get old.messages m ≡ Some x → slice_get new.messages n ≡ Some y
-    → message_changes (record { old = old; before = x; new = new; after = y }) ≡ []
+    → losses (message_changes (record { old = old; before = x; new = new; after = y })) ≡ []
 
 -- the message of a kind is one of some
 abbrev pub IsReached : (ℕ → Bool) → KindIndex → Type 0
@@ -50,5 +50,5 @@ IsClosed p reached = (m k : ℕ) (f : Entry) → reached m ≡ true → entry_at
 -- no new message of a pair has an entry of a number that its old one may have besides
 abbrev pub LeavesOut : Parts → Parts → (ℕ → Bool) → Besides → Type 0
 LeavesOut old new reached besides =
-    (m n k : ℕ) → reached m ≡ true → are_paired old m new n ≡ true → besides m k ≡ true
+    (m n k : ℕ) → reached m ≡ true → are_matched old m new n ≡ true → besides m k ≡ true
     → entry_at new n k ≡ None

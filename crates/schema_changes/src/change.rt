@@ -9,8 +9,10 @@ pub enum WireChangeKind {
     Oneof,
     /// It is required now, and was not.
     Required,
-    /// It is removed, and its number is neither reserved nor left to extensions.
+    /// It is removed, and its number is not reserved.
     FreeNumber,
+    /// Its number was reserved, and has a field now, or is not reserved any more.
+    Unreserved,
 }
 
 /// A change of a message by which bytes are read otherwise, with the number of its field.

@@ -4,19 +4,22 @@ ghost use Rattle.std.specs.Prelude.{◌≡◌, ◌++◌, OnOk};
 ghost use Rattle.std.specs.List.{flat_map};
 ghost use Rattle.schema_changes.specs.declared.change.WireChangeKind.TheVariants as change;
 ghost use Rattle.schema_changes.specs.Parts.{parts};
-ghost use Rattle.schema_changes.specs.Records.{is_kept_free};
+ghost use Rattle.schema_changes.specs.Records.{is_kept_free, reserved_of};
 ghost use Rattle.schema_changes.specs.Entries.{field_entry, extension_in};
 ghost use Rattle.schema_changes.specs.Changes.{compared, unless, old_entry, new_entry};
 ghost use Rattle.schema_changes.specs.Changes.{kept_changes, entry_changes, extension_changes};
-ghost use Rattle.schema_changes.specs.Changes.{was_required, required_changes};
-ghost use Rattle.schema_changes.specs.Changes.{required_extension_changes, oneof_changes};
+ghost use Rattle.schema_changes.specs.Changes.{was_required, required_changes, taken_changes};
+ghost use Rattle.schema_changes.specs.Changes.{added_changes, added_extension_changes};
+ghost use Rattle.schema_changes.specs.Changes.{is_taken, range_changes, oneof_changes};
 ghost use Rattle.schema_changes.specs.Changes.{message_changes};
 
 use crate::entries::field_entry;
 use crate::kinds::keeps_cardinality;
 use crate::pairs::keeps_kind;
 use crate::{Entry, Parts, WireChange, WireChangeKind};
+use field_rules::item_number;
 use pool_types::{Cardinality, MessageDescriptorInner};
+use proto_types::ReservedRange;
 use std::alloc::AllocError;
 
 /// An old and a new message that are compared, each with the items of its pool.
@@ -120,6 +123,24 @@ impl Compared<'_> {
         push_unless(changes, passes, entry.number, WireChangeKind::Required)
     }
 
+    /// Appends that a new entry takes a number that was reserved.
+    fn tell_taken(&self, changes: &mut Vec<WireChange>, entry: &Entry) -> Result<(), AllocError>
+        ensures { OnOk result (changes.new.items ≡ changes.old.items
+            ++ taken_changes (compared self.now) entry.now) }
+    {
+        let passes = self.leaves_reserved(entry);
+        push_unless(changes, passes, entry.number, WireChangeKind::Unreserved)
+    }
+
+    /// Appends what a new entry changes besides what it keeps of the old one with its number.
+    fn tell_added(&self, changes: &mut Vec<WireChange>, entry: &Entry) -> Result<(), AllocError>
+        ensures { OnOk result (changes.new.items ≡ changes.old.items
+            ++ added_changes (compared self.now) entry.now) }
+    {
+        self.tell_required(changes, entry)?;
+        self.tell_taken(changes, entry)
+    }
+
     /// Appends what the new entries with their numbers change of the old fields.
     fn tell_fields(&self, changes: &mut Vec<WireChange>) -> Result<(), AllocError>
         ensures { OnOk result (changes.new.items ≡ changes.old.items
@@ -174,50 +195,88 @@ impl Compared<'_> {
         Ok(())
     }
 
-    /// Appends which new fields are required, and were not.
-    fn tell_required_fields(&self, changes: &mut Vec<WireChange>) -> Result<(), AllocError>
+    /// Appends what the new fields change besides.
+    fn tell_added_fields(&self, changes: &mut Vec<WireChange>) -> Result<(), AllocError>
         ensures { OnOk result (changes.new.items ≡ changes.old.items
-            ++ flat_map (λ g. required_changes (compared self.now) (field_entry g))
+            ++ flat_map (λ g. added_changes (compared self.now) (field_entry g))
             self.now.after.now.fields) }
     {
         let fields = self.after.fields.as_slice();
         for field in fields {
-            self.tell_required(changes, &field_entry(field))?;
+            self.tell_added(changes, &field_entry(field))?;
         }
         Ok(())
     }
 
-    /// Appends that a new extension is required, where the old one was not, if there is one.
-    fn tell_required_extension(
+    /// Appends what a new extension changes besides, if there is one.
+    fn tell_added_extension(
         &self,
         changes: &mut Vec<WireChange>,
         extension: Option<Entry>,
     ) -> Result<(), AllocError>
         ensures { OnOk result (changes.new.items ≡ changes.old.items
-            ++ required_extension_changes (compared self.now) extension) }
+            ++ added_extension_changes (compared self.now) extension) }
     {
         match extension {
-            Some(entry) => self.tell_required(changes, &entry),
+            Some(entry) => self.tell_added(changes, &entry),
             None => Ok(()),
         }
     }
 
-    /// Appends which new extensions are required, and were not.
-    fn tell_required_extensions(&self, changes: &mut Vec<WireChange>) -> Result<(), AllocError>
+    /// Appends what the new extensions change besides.
+    fn tell_added_extensions(&self, changes: &mut Vec<WireChange>) -> Result<(), AllocError>
         ensures { OnOk result (changes.new.items ≡ changes.old.items
-            ++ flat_map (λ i. required_extension_changes (compared self.now)
+            ++ flat_map (λ i. added_extension_changes (compared self.now)
             (extension_in (parts self.now.new) self.now.after.now i))
             self.now.after.now.extensions) }
     {
         let extensions = self.after.extensions.as_slice();
         for index in extensions {
-            self.tell_required_extension(changes, self.new.extension_in(self.after, *index))?;
+            self.tell_added_extension(changes, self.new.extension_in(self.after, *index))?;
+        }
+        Ok(())
+    }
+
+    /// Whether the new entry with a number takes one that was reserved, which is told of the entry.
+    fn is_taken(&self, number: u32) -> bool
+        ensures { result ≡ is_taken (compared self.now) number }
+    {
+        match self.new_entry(number) {
+            Some(entry) => !self.leaves_reserved(&entry),
+            None => false,
+        }
+    }
+
+    /// Appends that a range of numbers was reserved, and isn't now.
+    fn tell_range(
+        &self,
+        changes: &mut Vec<WireChange>,
+        range: &ReservedRange,
+    ) -> Result<(), AllocError>
+        ensures { OnOk result (changes.new.items ≡ changes.old.items
+            ++ range_changes (compared self.now) range.now) }
+    {
+        let number = item_number(range.start());
+        let passes = self.new.keeps_range(self.after, range) || self.is_taken(number);
+        push_unless(changes, passes, number, WireChangeKind::Unreserved)
+    }
+
+    /// Appends which ranges of numbers were reserved, and aren't now.
+    fn tell_ranges(&self, changes: &mut Vec<WireChange>) -> Result<(), AllocError>
+        ensures { OnOk result (changes.new.items ≡ changes.old.items
+            ++ flat_map (range_changes (compared self.now))
+            (reserved_of (parts self.now.old) self.now.before.now)) }
+    {
+        let ranges = self.old.reserved(self.before);
+        for range in ranges {
+            self.tell_range(changes, range)?;
         }
         Ok(())
     }
 
     /// Appends the changes of the message by which bytes are read otherwise: of each old field and
-    /// extension, of each new oneof, and then of each new field and extension.
+    /// extension, of each new oneof, of each new field and extension, and then of each range of
+    /// numbers that was reserved.
     ///
     /// # Errors
     /// `AllocError` where memory was refused. What is appended then isn't said.
@@ -228,7 +287,8 @@ impl Compared<'_> {
         self.tell_fields(changes)?;
         self.tell_extensions(changes)?;
         self.tell_oneofs(changes)?;
-        self.tell_required_fields(changes)?;
-        self.tell_required_extensions(changes)
+        self.tell_added_fields(changes)?;
+        self.tell_added_extensions(changes)?;
+        self.tell_ranges(changes)
     }
 }

@@ -1,27 +1,21 @@
 //! What the record of a message says of numbers for which it has no field.
 
-ghost use Rattle.std.specs.Prelude.{◌≡◌};
+ghost use Rattle.std.specs.Prelude.{◌≡◌, pos};
 ghost use Rattle.std.specs.List.{list_any};
 ghost use Rattle.std.specs.Option.{option_copied};
-ghost use Rattle.field_rules.specs.Ranges.{reserves, extends};
+ghost use Rattle.field_rules.specs.Ranges.{reserves};
 ghost use Rattle.schema_changes.specs.Parts.{parts};
-ghost use Rattle.schema_changes.specs.Records.{message_record, keeps_free, is_kept_free};
+ghost use Rattle.schema_changes.specs.Records.{message_record, reserved_of, is_kept_free};
+ghost use Rattle.schema_changes.specs.Records.{covers, keeps_range};
 
 use crate::Parts;
 use pool_types::MessageDescriptorInner;
-use proto_types::{DescriptorProto, ExtensionRange, ReservedRange};
+use proto_types::{DescriptorProto, ReservedRange};
 use record_lists::find_message_proto;
 
 /// Whether a reserved range of a message holds a number.
 fn reserves(range: &ReservedRange, number: i64) -> bool
     ensures { result ≡ reserves number range.now }
-{
-    i64::from(range.start()) <= number && number < i64::from(range.end())
-}
-
-/// Whether an extension range of a message holds a number.
-fn extends(range: &ExtensionRange, number: i64) -> bool
-    ensures { result ≡ extends number range.now }
 {
     i64::from(range.start()) <= number && number < i64::from(range.end())
 }
@@ -33,19 +27,11 @@ fn is_reserved(ranges: &[ReservedRange], number: i64) -> bool
     ranges.iter().any(|range| reserves(range, number))
 }
 
-/// Whether one of some extension ranges holds a number.
-fn is_extended(ranges: &[ExtensionRange], number: i64) -> bool
-    ensures { result ≡ list_any (extends number) ranges.now }
+/// Whether a second range holds each number of a first one.
+fn covers(range: &ReservedRange, other: &ReservedRange) -> bool
+    ensures { result ≡ covers range.now other.now }
 {
-    ranges.iter().any(|range| extends(range, number))
-}
-
-/// Whether a record keeps a number free of fields.
-fn keeps_free(message: &DescriptorProto, number: i64) -> bool
-    ensures { result ≡ keeps_free number message.now }
-{
-    is_reserved(message.reserved_range.as_slice(), number)
-        || is_extended(message.extension_range.as_slice(), number)
+    other.start() <= range.start() && range.end() <= other.end()
 }
 
 impl<'a> Parts<'a> {
@@ -60,13 +46,29 @@ impl<'a> Parts<'a> {
         find_message_proto(&file.raw, message.id.path())
     }
 
-    /// Whether a message keeps a number free of fields: it is reserved, or left to extensions.
+    /// The ranges of numbers that a message reserves.
+    #[tactic(auto, unfolding(crate::specs::Records::reserved_of))]
+    pub(crate) fn reserved(self, message: &MessageDescriptorInner) -> &'a [ReservedRange]
+        ensures { result.now ≡ reserved_of (parts self.entry) message.now }
+    {
+        match self.message_record(message) {
+            Some(record) => record.reserved_range.as_slice(),
+            None => &[],
+        }
+    }
+
+    /// Whether a message keeps a number free of fields: it is reserved.
     pub(crate) fn is_kept_free(self, message: &MessageDescriptorInner, number: u32) -> bool
         ensures { result ≡ is_kept_free (parts self.entry) message.now number }
     {
-        match self.message_record(message) {
-            Some(message) => keeps_free(message, i64::from(number)),
-            None => false,
-        }
+        is_reserved(self.reserved(message), i64::from(number))
+    }
+
+    /// Whether a message reserves each number of a range, in one range of its own.
+    pub(crate) fn keeps_range(self, message: &MessageDescriptorInner, range: &ReservedRange) -> bool
+        ensures { result ≡ keeps_range (parts self.entry) message.now range.now }
+    {
+        let ranges = self.reserved(message);
+        ranges.iter().any(|other| covers(range, other))
     }
 }

@@ -22,9 +22,16 @@ pub const CHANGE_RULES: &str = "\
 \"help\":{\"text\":\"Make it optional.\"},\
 \"properties\":{\"tags\":[\"wire\"]}}\
 ,{\"id\":\"number-free\",\
-\"shortDescription\":{\"text\":\"A field is gone, and its number is neither reserved nor left to \
-extensions.\"},\
+\"shortDescription\":{\"text\":\"A field is gone, and its number is not reserved.\"},\
 \"help\":{\"text\":\"Reserve the number.\"},\
+\"properties\":{\"tags\":[\"wire\"]}}\
+,{\"id\":\"reserved-removed\",\
+\"shortDescription\":{\"text\":\"A number that was reserved is so no more, or has a field.\"},\
+\"help\":{\"text\":\"Keep it reserved.\"},\
+\"properties\":{\"tags\":[\"wire\"]}}\
+,{\"id\":\"message-removed\",\
+\"shortDescription\":{\"text\":\"A message is gone.\"},\
+\"help\":{\"text\":\"Keep it, and mark it as deprecated.\"},\
 \"properties\":{\"tags\":[\"wire\"]}}\
 ,{\"id\":\"message-set\",\
 \"shortDescription\":{\"text\":\"One version of a message is a message set on the wire, and the \
@@ -90,10 +97,6 @@ other is not.\"},\
 ,{\"id\":\"option-changed\",\
 \"shortDescription\":{\"text\":\"An option of a file that names code is another.\"},\
 \"help\":{\"text\":\"Leave it.\"},\
-\"properties\":{\"tags\":[\"source\"]}}\
-,{\"id\":\"message-removed\",\
-\"shortDescription\":{\"text\":\"A message is gone.\"},\
-\"help\":{\"text\":\"Keep it, and mark it as deprecated.\"},\
 \"properties\":{\"tags\":[\"source\"]}}\
 ,{\"id\":\"enum-removed\",\
 \"shortDescription\":{\"text\":\"An enum is gone.\"},\

@@ -1,4 +1,4 @@
-use Rattle.std.proofs.Common.{refl}
+use Rattle.std.proofs.Common.{refl, sym, ◌∙◌}
 use Rattle.pool_changes.specs.FieldParts.{part}
 use Rattle.pool_changes.specs.Sides.{versions}
 use Rattle.pool_changes.proofs.Same.{source_none}
@@ -10,4 +10,4 @@ returns-clause-source c none =
     source_none (versions c.args.self) c.args.pair.now.messages.found.now (part c.args.pair.now.before) (part c.args.pair.now.after)
     c.args.pair.now.messages.before.now c.args.pair.now.messages.after.now
     (c.if-not-has_names_of.ensures.name refl) (c.if-not-has_kind_of.ensures.typed refl) (c.if-not-has_presence_of.ensures.presence refl)
-    (c.if-not-has_oneof_of.ensures refl) (c.has_no_default.ensures none)
+    (c.if-not-has_oneof_of.ensures refl) (sym c.has_first_of.ensures ∙ none)
