@@ -81,7 +81,7 @@ module _ (p : Contents) (pool : IsPool p) (k : ℕ) (x : MessageDescriptorInner)
   new-taken : taken_changes c (field_entry g) ≡ []
   new-taken =
       untold (leaves_reserved (parts_of p) x (field_entry g)) g.number change.Unreserved
-      (or_right (is_some (entry_numbered (parts_of p) x g.number)) (not (is_kept_free (parts_of p) x g.number)) (ap not unreserved))
+      (or_left (not (is_kept_free (parts_of p) x g.number)) (is_some (entry_numbered (parts_of p) x g.number)) (ap not unreserved))
 
   new-added : added_changes c (field_entry g) ≡ []
   new-added = ap (λ ys. ys ++ taken_changes c (field_entry g)) new-required ∙ new-taken

@@ -235,7 +235,7 @@ module _ (p : Contents) (pool : IsPool p) (k : ℕ) (x : MessageDescriptorInner)
 
     taken-none : (f : Entry) → entry_numbered (parts_of p) x f.number ≡ Some f → taken_changes c f ≡ []
     taken-none f is =
-        untold (leaves_reserved (parts_of p) x f) f.number change.Unreserved (or_left (is_some (entry_numbered (parts_of p) x f.number)) (not (is_kept_free (parts_of p) x f.number)) (ap is_some is))
+        untold (leaves_reserved (parts_of p) x f) f.number change.Unreserved (or_right (not (is_kept_free (parts_of p) x f.number)) (is_some (entry_numbered (parts_of p) x f.number)) (ap is_some is))
 
     pub added-none : (f : Entry) → entry_numbered (parts_of p) x f.number ≡ Some f → added_changes c f ≡ []
     added-none f is = ap (λ ys. ys ++ taken_changes c f) (required-none f is) ∙ taken-none f is

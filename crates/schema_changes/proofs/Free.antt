@@ -84,9 +84,9 @@ module _ (old : Parts) (x : MessageDescriptorInner) (new : Parts) (y : MessageDe
   not-taken i g number free none leaves =
       let had : is_some (entry_numbered old x g.number) ≡ false = ap (λ n. is_some (entry_numbered old x n)) number ∙ ap is_some none in
       let reserved : not (is_kept_free old x g.number) ≡ false = ap (λ n. not (is_kept_free old x n)) number ∙ ap not free in
-      elim (or_cases (is_some (entry_numbered old x g.number)) (not (is_kept_free old x g.number)) leaves) [
-        | inl one ↦ absurd (false≢true (sym had ∙ one))
-        | inr other ↦ absurd (false≢true (sym reserved ∙ other))
+      elim (or_cases (not (is_kept_free old x g.number)) (is_some (entry_numbered old x g.number)) leaves) [
+        | inl one ↦ absurd (false≢true (sym reserved ∙ one))
+        | inr other ↦ absurd (false≢true (sym had ∙ other))
       ]
 
   -- so it has no entry

@@ -29,11 +29,11 @@ abbrev pub keeps_entry : Pairs → Parts → Option Entry → Parts → Entry �
 keeps_entry pairs old None new g = not (is_required g.cardinality)
 keeps_entry pairs old (Some f) new g = keeps_kind_by pairs old f new g && keeps_but_kind f g
 
--- whether a new entry takes no number that an old message reserved: the old one had it, or did not
--- reserve its number
+-- whether a new entry takes no number that an old message reserved: that one did not reserve its
+-- number, or had an entry with it
 abbrev pub leaves_reserved : Parts → MessageDescriptorInner → Entry → Bool
 leaves_reserved old x g =
-    is_some (entry_numbered old x g.number) || not (is_kept_free old x g.number)
+    not (is_kept_free old x g.number) || is_some (entry_numbered old x g.number)
 
 -- whether a field of a new message keeps what the old one has of its number, and takes none that was
 -- reserved

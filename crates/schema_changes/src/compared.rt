@@ -124,21 +124,33 @@ impl Compared<'_> {
     }
 
     /// Appends that a new entry takes a number that was reserved.
-    fn tell_taken(&self, changes: &mut Vec<WireChange>, entry: &Entry) -> Result<(), AllocError>
+    fn tell_taken(
+        &self,
+        changes: &mut Vec<WireChange>,
+        reserved: &[ReservedRange],
+        entry: &Entry,
+    ) -> Result<(), AllocError>
+        requires { reserved.now ≡ reserved_of (parts self.now.old) self.now.before.now }
         ensures { OnOk result (changes.new.items ≡ changes.old.items
             ++ taken_changes (compared self.now) entry.now) }
     {
-        let passes = self.leaves_reserved(entry);
+        let passes = self.leaves(reserved, entry);
         push_unless(changes, passes, entry.number, WireChangeKind::Unreserved)
     }
 
     /// Appends what a new entry changes besides what it keeps of the old one with its number.
-    fn tell_added(&self, changes: &mut Vec<WireChange>, entry: &Entry) -> Result<(), AllocError>
+    fn tell_added(
+        &self,
+        changes: &mut Vec<WireChange>,
+        reserved: &[ReservedRange],
+        entry: &Entry,
+    ) -> Result<(), AllocError>
+        requires { reserved.now ≡ reserved_of (parts self.now.old) self.now.before.now }
         ensures { OnOk result (changes.new.items ≡ changes.old.items
             ++ added_changes (compared self.now) entry.now) }
     {
         self.tell_required(changes, entry)?;
-        self.tell_taken(changes, entry)
+        self.tell_taken(changes, reserved, entry)
     }
 
     /// Appends what the new entries with their numbers change of the old fields.
@@ -196,14 +208,19 @@ impl Compared<'_> {
     }
 
     /// Appends what the new fields change besides.
-    fn tell_added_fields(&self, changes: &mut Vec<WireChange>) -> Result<(), AllocError>
+    fn tell_added_fields(
+        &self,
+        changes: &mut Vec<WireChange>,
+        reserved: &[ReservedRange],
+    ) -> Result<(), AllocError>
+        requires { reserved.now ≡ reserved_of (parts self.now.old) self.now.before.now }
         ensures { OnOk result (changes.new.items ≡ changes.old.items
             ++ flat_map (λ g. added_changes (compared self.now) (field_entry g))
             self.now.after.now.fields) }
     {
         let fields = self.after.fields.as_slice();
         for field in fields {
-            self.tell_added(changes, &field_entry(field))?;
+            self.tell_added(changes, reserved, &field_entry(field))?;
         }
         Ok(())
     }
@@ -212,19 +229,26 @@ impl Compared<'_> {
     fn tell_added_extension(
         &self,
         changes: &mut Vec<WireChange>,
+        reserved: &[ReservedRange],
         extension: Option<Entry>,
     ) -> Result<(), AllocError>
+        requires { reserved.now ≡ reserved_of (parts self.now.old) self.now.before.now }
         ensures { OnOk result (changes.new.items ≡ changes.old.items
             ++ added_extension_changes (compared self.now) extension) }
     {
         match extension {
-            Some(entry) => self.tell_added(changes, &entry),
+            Some(entry) => self.tell_added(changes, reserved, &entry),
             None => Ok(()),
         }
     }
 
     /// Appends what the new extensions change besides.
-    fn tell_added_extensions(&self, changes: &mut Vec<WireChange>) -> Result<(), AllocError>
+    fn tell_added_extensions(
+        &self,
+        changes: &mut Vec<WireChange>,
+        reserved: &[ReservedRange],
+    ) -> Result<(), AllocError>
+        requires { reserved.now ≡ reserved_of (parts self.now.old) self.now.before.now }
         ensures { OnOk result (changes.new.items ≡ changes.old.items
             ++ flat_map (λ i. added_extension_changes (compared self.now)
             (extension_in (parts self.now.new) self.now.after.now i))
@@ -232,7 +256,8 @@ impl Compared<'_> {
     {
         let extensions = self.after.extensions.as_slice();
         for index in extensions {
-            self.tell_added_extension(changes, self.new.extension_in(self.after, *index))?;
+            let extension = self.new.extension_in(self.after, *index);
+            self.tell_added_extension(changes, reserved, extension)?;
         }
         Ok(())
     }
@@ -261,14 +286,16 @@ impl Compared<'_> {
         push_unless(changes, passes, number, WireChangeKind::Unreserved)
     }
 
-    /// Appends which ranges of numbers were reserved, and aren't now.
-    fn tell_ranges(&self, changes: &mut Vec<WireChange>) -> Result<(), AllocError>
+    /// Appends which of some ranges of numbers, which were reserved, aren't now.
+    fn tell_ranges(
+        &self,
+        changes: &mut Vec<WireChange>,
+        reserved: &[ReservedRange],
+    ) -> Result<(), AllocError>
         ensures { OnOk result (changes.new.items ≡ changes.old.items
-            ++ flat_map (range_changes (compared self.now))
-            (reserved_of (parts self.now.old) self.now.before.now)) }
+            ++ flat_map (range_changes (compared self.now)) reserved.now) }
     {
-        let ranges = self.old.reserved(self.before);
-        for range in ranges {
+        for range in reserved {
             self.tell_range(changes, range)?;
         }
         Ok(())
@@ -287,8 +314,9 @@ impl Compared<'_> {
         self.tell_fields(changes)?;
         self.tell_extensions(changes)?;
         self.tell_oneofs(changes)?;
-        self.tell_added_fields(changes)?;
-        self.tell_added_extensions(changes)?;
-        self.tell_ranges(changes)
+        let reserved = self.old.reserved(self.before);
+        self.tell_added_fields(changes, reserved)?;
+        self.tell_added_extensions(changes, reserved)?;
+        self.tell_ranges(changes, reserved)
     }
 }

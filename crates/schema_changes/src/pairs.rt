@@ -14,8 +14,10 @@ ghost use Rattle.schema_changes.specs.Pairs.{keeps_map, are_inner_pairs, are_pai
 use crate::entries::field_entry;
 use crate::kinds::{keeps_cardinality, keeps_scalar, messages_of};
 use crate::oneofs::in_one;
+use crate::records::is_reserved;
 use crate::{Compared, Entry, Parts};
 use pool_types::{Cardinality, FieldDescriptorInner};
+use proto_types::ReservedRange;
 
 /// Whether a new field keeps an old one, but for its kind.
 fn keeps_but_kind(field: &Entry, kept: &Entry) -> bool
@@ -54,11 +56,19 @@ impl Compared<'_> {
             .all(|range| self.new.keeps_range(self.after, range))
     }
 
+    /// Whether a new entry takes no number that the old message reserved, in some ranges.
+    pub(crate) fn leaves(&self, reserved: &[ReservedRange], entry: &Entry) -> bool
+        requires { reserved.now ≡ reserved_of (parts self.now.old) self.now.before.now }
+        ensures { result ≡ leaves_reserved (parts self.now.old) self.now.before.now entry.now }
+    {
+        !is_reserved(reserved, i64::from(entry.number)) || self.old_entry(entry.number).is_some()
+    }
+
     /// Whether a new entry takes no number that the old message reserved.
     pub(crate) fn leaves_reserved(&self, entry: &Entry) -> bool
         ensures { result ≡ leaves_reserved (parts self.now.old) self.now.before.now entry.now }
     {
-        self.old_entry(entry.number).is_some() || !self.old.is_kept_free(self.before, entry.number)
+        self.leaves(self.old.reserved(self.before), entry)
     }
 
     /// Whether nothing extends the two messages.

@@ -21,7 +21,7 @@ fn reserves(range: &ReservedRange, number: i64) -> bool
 }
 
 /// Whether one of some reserved ranges holds a number.
-fn is_reserved(ranges: &[ReservedRange], number: i64) -> bool
+pub(crate) fn is_reserved(ranges: &[ReservedRange], number: i64) -> bool
     ensures { result ≡ list_any (reserves number) ranges.now }
 {
     ranges.iter().any(|range| reserves(range, number))
