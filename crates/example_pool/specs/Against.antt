@@ -2,8 +2,9 @@
 use Rattle.std.specs.Prelude.{◌≡◌, ℕ, false, true, List, Ok}
 use Rattle.std.specs.List.{Contains}
 use Rattle.pool_types.specs.Contents.{Contents}
+use Rattle.schema_changes.specs.Pairs.{are_matched}
 use Rattle.schema_changes.specs.Parts.{parts_of, one_name}
-use Rattle.pool_changes.specs.Laws.{ReadsAlike}
+use Rattle.pool_changes.specs.Laws.{MapsAlike, ReadsAlike}
 use Rattle.pool_changes.specs.Sides.{Versions, writer, reader}
 use Rattle.pool_changes.specs.declared.direction.Direction.{Direction}
 use Rattle.descriptor_check.specs.Against.{answer_against, directions}
@@ -19,10 +20,13 @@ abbrev pub OlderAs : Wanted → Input → Contents → Type 0
 OlderAs w i p = older_of w i ≡ Ok (record { name = i.name; pool = p })
 
 -- what the version that writes in a direction writes of a message is read by the other, if both have
--- a message of that name, with the same value of each field that both have, down to any level
-abbrev pub ReadsIn : Versions → Type 0
-ReadsIn v = (m n : ℕ) → one_name (parts_of (writer v)) m (parts_of (reader v)) n ≡ true
-    → ReadsAlike (writer v) (reader v) (λ _ _. false) m n
+-- a message of that name, with the same value of each field that both have, down to any level; and
+-- each map, with the same entry of each key
+pub record ReadsIn (v : Versions) : Type 0 where
+  pub values : (m n : ℕ) → one_name (parts_of (writer v)) m (parts_of (reader v)) n ≡ true
+      → ReadsAlike (writer v) (reader v) (λ _ _. false) m n
+  pub maps : (m n : ℕ) → are_matched (parts_of (writer v)) m (parts_of (reader v)) n ≡ true
+      → MapsAlike (writer v) (reader v) (λ _ _. false) m n
 
 -- law: where the check against older versions ends with the status of an accepted batch, what one
 -- version writes is read by the other, in each direction that is asked for, with each older version

@@ -20,6 +20,7 @@ use Rattle.reference_pass.specs.Linking.{IsNamedBy, lists_in}
 use Rattle.schema_changes.specs.Chains.{NoneChanges}
 use Rattle.schema_changes.specs.Changes.{Compared, is_lossy, message_changes}
 use Rattle.schema_changes.specs.MapEntries.{is_map_entry}
+use Rattle.schema_changes.specs.Pairs.{are_matched}
 use Rattle.schema_changes.specs.Parts.{parts_of, one_name, are_named_alike}
 use Rattle.schema_changes.specs.Pools.{message_meant, message_named, of_message, changes_with, changes_from, wire_changes, wire_losses}
 use Rattle.schema_changes.specs.Unchanged.{LeavesOut}
@@ -28,11 +29,11 @@ use Rattle.schema_changes.specs.declared.change.WireChange.{WireChange}
 use Rattle.schema_changes.specs.declared.change.WireChangeKind.{WireChangeKind}
 use Rattle.schema_changes.specs.declared.change.WireChangeKind.TheVariants as change
 use Rattle.schema_changes.proofs.Keeping.{at-index, each-none, followed, left-none, right-none}
-use Rattle.schema_changes.proofs.Named.{no-loss}
+use Rattle.schema_changes.proofs.Named.{no-loss, no-loss-maps}
 use Rattle.verdict_texts.specs.declared.telling.ToldFault.{ToldFault}
 use Rattle.pool_changes.specs.AtLevels.{at_json, at_source}
 use Rattle.pool_changes.specs.Comparing.{told_if, set_changes, message_told, messages_told, at_wire, json_in, source_in, told_at, changes}
-use Rattle.pool_changes.specs.Laws.{NoneIsTold, ReadsAlike, UntoldIsKept}
+use Rattle.pool_changes.specs.Laws.{MapsAlike, NoneIsTold, ReadsAlike, UntoldIsKept, UntoldMapsAreRead}
 use Rattle.pool_changes.specs.Members.{by_writer}
 use Rattle.pool_changes.specs.Removed.{is_told, message_removed}
 use Rattle.pool_changes.specs.Services.{services_changes}
@@ -164,6 +165,19 @@ untold-read Backward old new pool-old pool-new level besides untold free =
 untold-read Forward old new pool-old pool-new level besides untold free =
     let v : Versions = record { direction = Forward; old = old; new = new } in
     read-by new old besides pool-new pool-old (none-lost Forward (wire_changes new old) (untold-unchanged v level untold)) free
+
+maps-by : (w r : Contents) (besides : Besides) → IsPool w → IsPool r → wire_losses w r ≡ [] → LeavesOut (parts_of w) (parts_of r) (λ _. true) besides
+    → (m n : ℕ) → are_matched (parts_of w) m (parts_of r) n ≡ true → MapsAlike w r besides m n
+maps-by w r besides pool-w pool-r none free m n pair levels =
+    no-loss-maps w r besides (look_up w pool-w) (look_up r pool-r) (names_mean r pool-r) none free levels m n pair
+
+pub untold-maps : (d : Direction) (old new : Contents) → IsPool old → IsPool new → UntoldMapsAreRead (record { direction = d; old = old; new = new })
+untold-maps Backward old new pool-old pool-new level besides untold free =
+    let v : Versions = record { direction = Backward; old = old; new = new } in
+    maps-by old new besides pool-old pool-new (none-lost Backward (wire_changes old new) (untold-unchanged v level untold)) free
+untold-maps Forward old new pool-old pool-new level besides untold free =
+    let v : Versions = record { direction = Forward; old = old; new = new } in
+    maps-by new old besides pool-new pool-old (none-lost Forward (wire_changes new old) (untold-unchanged v level untold)) free
 
 pub untold-kept : (old new : Contents) → IsPool old → IsPool new → UntoldIsKept old new
 untold-kept old new pool-old pool-new level untold m x at plain =

@@ -1,8 +1,11 @@
 -- What a new pool reads of what was written by an old one.
-use Rattle.std.specs.Prelude.{◌≡◌, ℕ, Bool, true, false, List, [], ◌∷◌, ◌++◌, length, Some, None}
+use Rattle.std.specs.Prelude.{◌≡◌, ℕ, suc, Bool, true, false, List, [], ◌∷◌, ◌++◌, length, Some, None}
 use Rattle.std.specs.Prelude.{slice_get, ⊤}
 use Rattle.std.specs.FinMap as finite
 use Rattle.std.specs.List.{AllByRecursion, filter}
+use Rattle.message_values.specs.Fields.{value}
+use Rattle.message_values.specs.Maps.{AreMaps, map_read}
+use Rattle.message_values.specs.Schema.{Field}
 use Rattle.message_values.specs.Values.{Numbered}
 use Rattle.message_values.specs.Reading.{IsRead}
 use Rattle.message_values.specs.Writing.{Besides, IsWritten}
@@ -15,6 +18,7 @@ use Rattle.schema_changes.specs.Chains.{last_of, goes_on}
 use Rattle.schema_changes.specs.Changes.{message_changes}
 use Rattle.schema_changes.specs.Entries.{entry_numbered, schema_of}
 use Rattle.schema_changes.specs.Kinds.{is_required}
+use Rattle.schema_changes.specs.Pairs.{are_matched}
 use Rattle.schema_changes.specs.Parts.{parts_of, one_name}
 use Rattle.schema_changes.specs.MapEntries.{is_map_entry}
 use Rattle.schema_changes.specs.Pools.{wire_changes, wire_losses}
@@ -35,6 +39,18 @@ ReadsAlike old new besides m n =
     → IsRead (schema_of (parts_of new)) levels n vs
     × AreCarried (schema_of (parts_of old)) (schema_of (parts_of new)) levels m n vs
 
+-- each map that an old pool writes in a message is read by a new one in another message, with the same
+-- entry of each key
+abbrev pub MapsAlike : Contents → Contents → Besides → ℕ → ℕ → Type 0
+MapsAlike old new besides m n =
+    (levels i : ℕ) (f g : Field) → (schema_of (parts_of old)).field m i ≡ Some f
+    → (schema_of (parts_of new)).field n i ≡ Some g
+    → (a b : ℕ) (k l : Field)
+    → AreMaps (schema_of (parts_of old)) (schema_of (parts_of new)) f g a b k l
+    → (vs : List Numbered) → IsWritten (schema_of (parts_of old)) besides (suc levels) m vs
+    → map_read (schema_of (parts_of old)) a k (value (schema_of (parts_of old)) m i f vs)
+    ≡ map_read (schema_of (parts_of new)) b l (value (schema_of (parts_of new)) n i g vs)
+
 -- law: where no change loses anything, what is written of a message by the old pool is read by the
 -- new one, if it has a message of that name
 abbrev pub NoLossIsRead : Contents → Contents → Type 0
@@ -52,6 +68,15 @@ UntoldIsRead v =
     → LeavesOut (parts_of (writer v)) (parts_of (reader v)) (λ _. true) besides
     → (m n : ℕ) → one_name (parts_of (writer v)) m (parts_of (reader v)) n ≡ true
     → ReadsAlike (writer v) (reader v) besides m n
+
+-- law: and each map in a message, or in one that a field holds, is read with the same entry of each
+-- key
+abbrev pub UntoldMapsAreRead : Versions → Type 0
+UntoldMapsAreRead v =
+    (level : Level) (besides : Besides) → told_at v level ≡ []
+    → LeavesOut (parts_of (writer v)) (parts_of (reader v)) (λ _. true) besides
+    → (m n : ℕ) → are_matched (parts_of (writer v)) m (parts_of (reader v)) n ≡ true
+    → MapsAlike (writer v) (reader v) besides m n
 
 -- law: where nothing is told backward, at any level, each message of the older pool, but the entries
 -- of maps, has one with its name in the new pool, by which what the older one writes of it is read

@@ -7,7 +7,7 @@ ghost use Rattle.pool_changes.specs.declared.direction.Direction.{Direction};
 ghost use Rattle.pool_changes.specs.declared.kinds.Level.TheVariants.{Wire};
 ghost use Rattle.pool_changes.specs.Laws.{Chains, FreshNumberIsKept, NoLossIsRead};
 ghost use Rattle.pool_changes.specs.Laws.{UnchangedIsRead, UntoldIsKept, UntoldIsRead};
-ghost use Rattle.pool_changes.specs.Laws.{UntoldIsUnchanged};
+ghost use Rattle.pool_changes.specs.Laws.{UntoldIsUnchanged, UntoldMapsAreRead};
 
 use descriptor_pool::DescriptorPool;
 
@@ -23,10 +23,13 @@ pub fn no_loss_is_read(old: &DescriptorPool, new: &DescriptorPool)
 
 /// Where nothing is told of two versions in a direction, at any level, what is written of a message
 /// by the schema of the one that writes is read by that of the other, if it has a message of that
-/// name, with the same value of each field that both have.
+/// name, with the same value of each field that both have, and of each map with the same entry of
+/// each key.
 pub fn untold_is_read(old: &DescriptorPool, new: &DescriptorPool)
-    ensures { (d : Direction)
+    ensures read { (d : Direction)
         → UntoldIsRead (record { direction = d; old = old.now; new = new.now }) }
+    ensures maps { (d : Direction)
+        → UntoldMapsAreRead (record { direction = d; old = old.now; new = new.now }) }
 {
     old.made();
     new.made();

@@ -1,5 +1,6 @@
 -- Messages by their names.
 use Rattle.std.proofs.Common.{◌≡◌, ℕ, zero, suc, ◌+◌, ◌<◌, Bool, true, false, cond, List, [], ◌∷◌, ◌++◌, Some, length, take, get_or, map, slice_get, option_map, unwrap_or, bytes_eq, refl, ap, sym, subst, subst₂, ◌∙◌, arith, append_assoc, append-nil}
+use Rattle.std.proofs.lemmas.Bool.{and_from}
 use Rattle.std.proofs.lemmas.List.Elements.{filter-append}
 use Rattle.std.proofs.lemmas.Slice.Eq.{bytes_eq-Decides}
 use Rattle.std.specs.List.{filter}
@@ -7,14 +8,19 @@ use Rattle.pool_types.specs.Contents.{Contents}
 use Rattle.pool_types.specs.declared.contents.message.MessageDescriptorInner.{MessageDescriptorInner}
 use Rattle.pool_types.specs.declared.kinds.KindIndex.{KindIndex}
 use Rattle.pool_types.specs.declared.kinds.KindIndex.TheVariants as index
+use Rattle.message_values.specs.Fields.{value}
+use Rattle.message_values.specs.Maps.{AreMaps, map_read}
+use Rattle.message_values.specs.Schema.{Field}
 use Rattle.message_values.specs.Values.{Numbered}
 use Rattle.message_values.specs.Reading.{IsRead}
 use Rattle.message_values.specs.Writing.{Besides, IsWritten}
 use Rattle.message_values.specs.Kept.{KeepsAll}
 use Rattle.message_values.specs.Carried.{AreCarried}
+use Rattle.message_values.proofs.Maps.{maps-carried}
 use Rattle.schema_changes.specs.declared.change.MessageChange.{MessageChange}
 use Rattle.schema_changes.specs.declared.change.WireChange.{WireChange}
 use Rattle.schema_changes.specs.Changes.{is_lossy, losses, message_changes}
+use Rattle.schema_changes.specs.Pairs.{are_matched}
 use Rattle.schema_changes.specs.Parts.{Parts, parts_of, one_name, are_named_alike}
 use Rattle.schema_changes.specs.Entries.{schema_of}
 use Rattle.schema_changes.specs.Unchanged.{LookUp, NothingIsLost, LeavesOut, IsReached, IsClosed}
@@ -121,6 +127,15 @@ pub pool-kept : (old new : Contents) (besides : Besides) → LookUp (parts_of ol
     → KeepsAll (named_alike (λ m. true) (parts_of old) (parts_of new)) besides (schema_of (parts_of old)) (schema_of (parts_of new))
 pool-kept old new besides look-old look-new mean none free =
     keeps-all (parts_of old) (parts_of new) (λ m. true) besides look-old look-new (all-closed (parts_of old)) (nothing-lost old new mean none) free
+
+-- so each map of a pair of messages is read as it was written
+pub no-loss-maps : (old new : Contents) (besides : Besides) → LookUp (parts_of old) → LookUp (parts_of new) → NamesMean new → wire_losses old new ≡ [] → LeavesOut (parts_of old) (parts_of new) (λ m. true) besides
+    → (levels m n : ℕ) → are_matched (parts_of old) m (parts_of new) n ≡ true → (i : ℕ) (f g : Field) → (schema_of (parts_of old)).field m i ≡ Some f → (schema_of (parts_of new)).field n i ≡ Some g
+    → (a b : ℕ) (k l : Field) → AreMaps (schema_of (parts_of old)) (schema_of (parts_of new)) f g a b k l → (vs : List Numbered) → IsWritten (schema_of (parts_of old)) besides (suc levels) m vs
+    → map_read (schema_of (parts_of old)) a k (value (schema_of (parts_of old)) m i f vs) ≡ map_read (schema_of (parts_of new)) b l (value (schema_of (parts_of new)) n i g vs)
+no-loss-maps old new besides look-old look-new mean none free levels m n pair =
+    maps-carried (schema_of (parts_of old)) (schema_of (parts_of new)) (named_alike (λ m. true) (parts_of old) (parts_of new)) besides (pool-kept old new besides look-old look-new mean none free) levels m n
+    (and_from true (are_matched (parts_of old) m (parts_of new) n) refl pair)
 
 pub no-loss : (old new : Contents) (besides : Besides) → LookUp (parts_of old) → LookUp (parts_of new) → NamesMean new → wire_losses old new ≡ [] → LeavesOut (parts_of old) (parts_of new) (λ m. true) besides
     → (levels m n : ℕ) → one_name (parts_of old) m (parts_of new) n ≡ true → (vs : List Numbered) → IsWritten (schema_of (parts_of old)) besides levels m vs
