@@ -915,7 +915,10 @@ at_level("json", "json-message-removed", P2 + N + message(), P2 + message())
 
 # Code that is made of the schema.
 CODE = "code names it: keep it, and mark it as deprecated"
-WRITTEN = "what was written of it is not read: keep it, and mark it as deprecated"
+WRITTEN = (
+    "a reader that asks for its name has none, and a field that held it is compared by itself: "
+    "keep it, and mark it as deprecated"
+)
 MISSING = "code goes by what it reads where nothing was written: leave it"
 OF_FILE = "code that is made of the file is another: leave it"
 at_level("json", "json-message-under-another-name", P2 + N + OF_N, P2 + O + OF_O)

@@ -1,5 +1,5 @@
 -- What changes of an element that both sides tell, and at which level.
-use Rattle.std.specs.Prelude.{ℕ, List, [], ◌∷◌, codes}
+use Rattle.std.specs.Prelude.{ℕ, List, [], ◌∷◌, ◌++◌, codes}
 use Rattle.pool_changes.specs.declared.kinds.Level.{Level}
 use Rattle.pool_changes.specs.declared.kinds.Level.TheVariants.{Wire, Json, Source}
 use Rattle.pool_changes.specs.declared.kinds.ElementChange.{ElementChange}
@@ -90,7 +90,8 @@ element_note element.ValueName = value_note
 element_note element.FileRemoved =
     codes "sources import it: keep it, if only with public imports of other files"
 element_note element.MessageRemoved =
-    codes "what was written of it is not read: keep it, and mark it as deprecated"
+    codes "a reader that asks for its name has none, and a field that held it is compared by "
+    ++ codes "itself: keep it, and mark it as deprecated"
 element_note element.OneofRemoved = code_note
 element_note element.FieldName = codes "code names it: leave the name"
 element_note element.FieldType = codes "code has values of the other type: leave it"

@@ -137,7 +137,8 @@ impl ElementChange {
                 "sources import it: keep it, if only with public imports of other files"
             }
             ElementChange::MessageRemoved => {
-                "what was written of it is not read: keep it, and mark it as deprecated"
+                "a reader that asks for its name has none, and a field that held it is compared \
+                by itself: keep it, and mark it as deprecated"
             }
             ElementChange::OneofRemoved | ElementChange::EnumRemoved => {
                 "code names it: keep it, and mark it as deprecated"
