@@ -9,7 +9,7 @@ use Rattle.verdict_texts.specs.declared.telling.ToldFault.{ToldFault}
 use Rattle.verdict_texts.specs.Refused.{too_many_text}
 use Rattle.schema_changes.proofs.Keeping.{at-contained}
 use Rattle.pool_changes.specs.Comparing.{told_at}
-use Rattle.pool_changes.specs.Laws.{UntoldIsRead, UntoldMapsAreRead}
+use Rattle.pool_changes.specs.Laws.{UntoldIsKept, UntoldIsRead, UntoldMapsAreRead}
 use Rattle.pool_changes.specs.Sides.{Versions}
 use Rattle.pool_changes.specs.declared.direction.Direction.{Direction}
 use Rattle.pool_changes.specs.declared.told.ToldChanges.{ToldChanges}
@@ -232,12 +232,15 @@ input-untold w (j ∷ js) inputs old new accepts i has older accepted d asked =
     (subst (λ p. told_at (record { direction = d; old = p; new = (both.2).pool }) (level_wanted w) ≡ []) one here)
 
 pub accepted-read : (w : Wanted) (olders inputs : List Input) (a : Answer) (old new : Contents) → ((d : Direction) → UntoldIsRead (record { direction = d; old = old; new = new }))
-    → ((d : Direction) → UntoldMapsAreRead (record { direction = d; old = old; new = new })) → AcceptedIsRead w olders inputs a old new
-accepted-read w olders inputs a old new read maps is accepts i has older accepted d asked =
+    → ((d : Direction) → UntoldMapsAreRead (record { direction = d; old = old; new = new })) → UntoldIsKept old new → AcceptedIsRead w olders inputs a old new
+accepted-read w olders inputs a old new read maps kept is accepts i has older accepted d asked =
     let untold = input-untold w olders inputs old new (sym (ap (λ (b : Answer). b.status) is) ∙ accepts) i has older accepted d asked in
     record {
       values = read d (level_wanted w) (λ _ _. false) untold (λ a b k here pair besides. absurd (false≢true besides));
       maps = maps d (level_wanted w) (λ _ _. false) untold (λ a b k here pair besides. absurd (false≢true besides));
+      names = λ back m x at plain.
+          let k = kept (level_wanted w) (subst (λ e. told_at (record { direction = e; old = old; new = new }) (level_wanted w) ≡ []) back untold) m x at plain in
+          (k.0, k.1);
     }
 
 each-own : (os : List Older) → AllByRecursion (λ o. Older) os

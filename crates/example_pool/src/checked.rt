@@ -11,7 +11,7 @@ use descriptor_check::{Answer, Input, LinkedSet, Wanted, check};
 use descriptor_encoding::read_is_whole;
 use descriptor_pool::DescriptorPool;
 use plain_data::{Items, Text};
-use pool_changes::untold_is_read;
+use pool_changes::{untold_is_kept, untold_is_read};
 use std::alloc::{AllocError, Global};
 use std::io;
 use stored_pools::{linked_is_loaded, load};
@@ -36,8 +36,8 @@ pub fn checked_is_loaded(wanted: &Wanted, inputs: &[Input], answer: &Answer)
 
 /// Where the check against older versions ends with the status of an accepted batch, the inputs are
 /// accepted, with a pool, and so is each older version; and what one version writes of a message is
-/// read by the other, in each direction that is asked for, if both have a message of that name. The
-/// call does nothing: its contract is the law.
+/// read by the other, in each direction that is asked for, if both have a message of that name, as
+/// backward they have. The call does nothing: its contract is the law.
 pub fn accepted_is_read(
     wanted: &Wanted,
     older: &[Input],
@@ -51,6 +51,7 @@ pub fn accepted_is_read(
         → answer.now.status ≡ Accepted → HasPools wanted.now older.now inputs.now }
 {
     untold_is_read(old, new);
+    untold_is_kept(old, new);
 }
 
 /// The bytes of a set are fewer than 2^64, as those of every slice are.
