@@ -1,5 +1,5 @@
 #!/usr/bin/env python3
-"""Tells what protobuf's own pool has of schemas, in the form of `describe` of the crate descriptor_check.
+"""Tells what protobuf's own pool has of schemas, in the form of `describe` of the crate pool_descriptions.
 
     python3 describe_set.py text SOURCE..
     python3 describe_set.py write

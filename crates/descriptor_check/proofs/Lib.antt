@@ -1,4 +1,3 @@
 pub mod Linked
 pub mod NotRead
 mod Judged
-pub mod BytesText

@@ -18,7 +18,7 @@ use Rattle.verdict_texts.specs.Accepted.{accepted_text}
 use Rattle.descriptor_check.specs.Batches.{batch_of}
 use Rattle.descriptor_check.specs.Complaints.{complaint, no_answer}
 use Rattle.descriptor_check.specs.Described.{described, unknown_names}
-use Rattle.descriptor_check.specs.Listed.{listed}
+use Rattle.pool_descriptions.specs.Listed.{listed}
 use Rattle.verdict_texts.specs.Formats as formats
 use Rattle.verdict_texts.specs.Formats.{is_for_people, refused_report, too_many_report}
 use Rattle.verdict_texts.specs.Formats.{unread_report}

@@ -1,7 +1,7 @@
 -- What names mean in a pool, and what is told of those that mean nothing.
 use Rattle.std.specs.Prelude.{ℕ, List, [], ◌∷◌, ◌++◌, codes}
 use Rattle.std.specs.List.{flat_map}
-use Rattle.descriptor_check.specs.Named.{name_text}
+use Rattle.pool_descriptions.specs.Named.{name_text}
 use Rattle.pool_types.specs.Contents.{Contents}
 use Rattle.descriptor_check.specs.Complaints.{complaint}
 

@@ -4,7 +4,6 @@ pub mod Verdicts
 pub mod Strict
 pub mod Unread
 pub mod Complaints
-pub mod Listed
 pub mod Described
 pub mod Answers
 pub mod Olders
@@ -14,8 +13,3 @@ pub mod Arguments
 pub mod Statuses
 pub mod Devices
 pub mod Runs
-pub mod Words
-pub mod Values
-pub mod Items
-pub mod Named
-pub mod Faults

@@ -5,9 +5,9 @@ ghost use Rattle.std.specs.List.{flat_map};
 ghost use Rattle.descriptor_check.specs.Described as spec;
 
 use crate::complaints::write_complaint;
-use crate::describe_name;
 use descriptor_pool::DescriptorPool;
 use plain_data::Text;
+use pool_descriptions::describe_name;
 use std::alloc::{AllocError, Global};
 
 /// Writes what names mean in a pool, in order.

@@ -1,7 +1,7 @@
-use descriptor_check::{describe, faults_text};
 use descriptor_linker::{write_counts, write_fault, write_too_many};
 use descriptor_pool::{BuildError, DescriptorPool};
 use link_script::{Obeys, RecordBuilder, SaidLocation, ScriptError, ScriptReader, Statement};
+use pool_descriptions::{describe, faults_text};
 use std::alloc::{AllocError, Global};
 
 /// What each `link` of a script makes of its batch: the counts of the pool, what there is too much

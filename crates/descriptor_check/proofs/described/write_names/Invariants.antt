@@ -1,6 +1,6 @@
 use Rattle.std.proofs.Common.{◌≡◌, ◌++◌, string_bytes, take}
 use Rattle.std.specs.List.{flat_map}
-use Rattle.descriptor_check.specs.Named.{name_text}
+use Rattle.pool_descriptions.specs.Named.{name_text}
 use Rattle.descriptor_check.proofs.described.write_names.Given as goal
 
 -- the names so far are told

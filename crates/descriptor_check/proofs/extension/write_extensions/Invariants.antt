@@ -1,9 +1,0 @@
-use Rattle.std.proofs.Common.{◌≡◌, ◌++◌, string_bytes, take}
-use Rattle.std.specs.List.{flat_map}
-use Rattle.descriptor_check.specs.Items.{extension_text}
-use Rattle.descriptor_check.proofs.extension.write_extensions.Given as goal
-
--- the extensions so far are told
-abbrev pub invariant-loop-extension : goal.invariant-loop-extension
-invariant-loop-extension l =
-    string_bytes l.text ≡ string_bytes l.initial.text ++ flat_map (extension_text l.pool) (take l.extension-index l.pool.extensions)

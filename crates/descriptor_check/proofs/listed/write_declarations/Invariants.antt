@@ -1,9 +1,0 @@
-use Rattle.std.proofs.Common.{◌≡◌, ◌++◌, string_bytes, take}
-use Rattle.std.specs.List.{flat_map}
-use Rattle.descriptor_check.specs.Listed.{listed_line}
-use Rattle.descriptor_check.proofs.listed.write_declarations.Given as goal
-
--- the declarations so far are told
-abbrev pub invariant-loop-declaration : goal.invariant-loop-declaration
-invariant-loop-declaration l =
-    string_bytes l.text ≡ string_bytes l.initial.text ++ flat_map listed_line (take l.declaration-index l.list)

@@ -1,6 +1,0 @@
-use Rattle.std.proofs.Common.{arith}
-use Rattle.std.proofs.lemmas.Grind.{common_steps}
-use Rattle.descriptor_check.proofs.message.write_messages.Goals as goal
-
-pub loop-message-preserved : goal.loop-message-preserved
-loop-message-preserved c = grind (arith, common_steps)

@@ -1,9 +1,0 @@
-use Rattle.std.proofs.Common.{◌≡◌, ◌++◌, string_bytes, take}
-use Rattle.std.specs.List.{flat_map}
-use Rattle.descriptor_check.specs.Named.{extension_range_line}
-use Rattle.descriptor_check.proofs.ranges.write_extension_ranges.Given as goal
-
--- the ranges so far are told
-abbrev pub invariant-loop-range : goal.invariant-loop-range
-invariant-loop-range l =
-    string_bytes l.text ≡ string_bytes l.initial.text ++ flat_map extension_range_line (take l.range-index l.ranges)

@@ -1,9 +1,0 @@
-use Rattle.std.proofs.Common.{◌≡◌, ◌++◌, string_bytes, take}
-use Rattle.std.specs.List.{flat_map}
-use Rattle.descriptor_check.specs.Items.{reserved_name_line}
-use Rattle.descriptor_check.proofs.reserved.write_names.Given as goal
-
--- the names so far are told
-abbrev pub invariant-loop-name : goal.invariant-loop-name
-invariant-loop-name l =
-    string_bytes l.text ≡ string_bytes l.initial.text ++ flat_map reserved_name_line (take l.name-index l.names)

@@ -1,6 +1,0 @@
-use Rattle.std.proofs.Common.{arith}
-use Rattle.std.proofs.lemmas.Grind.{common_steps}
-use Rattle.descriptor_check.proofs.service.write_services.Goals as goal
-
-pub loop-service-preserved : goal.loop-service-preserved
-loop-service-preserved c = grind (arith, common_steps)

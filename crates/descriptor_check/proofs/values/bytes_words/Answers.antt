@@ -1,7 +1,0 @@
-use Rattle.std.proofs.Common.{rules}
-use Rattle.descriptor_check.proofs.BytesText.{debug_list-bytes}
-use Rattle.descriptor_check.proofs.values.bytes_words.Goals as goal
-
--- the bytes are printed as the library prints them
-pub returns : goal.returns
-returns c = search (rules, debug_list-bytes)

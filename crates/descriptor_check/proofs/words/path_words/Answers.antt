@@ -1,7 +1,0 @@
-use Rattle.std.proofs.Common.{rules}
-use Rattle.pool_faults.proofs.PathText.{debug_list-path}
-use Rattle.descriptor_check.proofs.words.path_words.Goals as goal
-
--- the path is printed as the library prints it
-pub returns : goal.returns
-returns c = search (rules, debug_list-path)
