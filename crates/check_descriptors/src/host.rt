@@ -1,34 +1,33 @@
-//! The machine that the program runs on. It tells nothing of itself to a contract.
+//! The machine that the program runs on. Contracts see the words of the arguments, and nothing else
+//! of it.
 
 use crate::failures::failure;
 use crate::parts::{remove_part, rename_part, write_part};
 use descriptor_check::{CheckDevices, DeviceError, LinkedSet, Part};
 use plain_data::{Items, Text};
 use std::alloc::Global;
+use std::fs;
 use std::io::{self, Read};
-use std::{env, fs};
 
-/// The machine, by its runtime.
+/// The machine, by its runtime, and what the program was called with.
 #[derive(Drop)]
 pub(crate) struct Host {
     pub(crate) rt: HostRuntime,
+    /// The words of the arguments, or why they could not be read.
+    pub(crate) words: Result<Items<Text>, DeviceError>,
 }
 
 impl CheckDevices for Host {
+    ghost use Rattle.std.specs.Result.{result_ok};
     ghost use Rattle.descriptor_check.specs.Devices.{untold};
 
-    ghost told = { λ _. untold };
+    ghost told = { λ host. record untold { words = result_ok host.words } };
 
     fn arguments(&self, alloc: Global) -> Result<Items<Text>, DeviceError> {
-        match env::args(&self.rt) {
-            Ok(arguments) => {
-                let mut words = Items::new(alloc);
-                for word in arguments.skip(1) {
-                    words.push(Text::from_string(word))?;
-                }
-                Ok(words)
-            }
-            Err(error) => Err(failure(alloc, &error)),
+        match &self.words {
+            Ok(words) => Ok(words.clone(alloc)?),
+            Err(DeviceError::Failed(why)) => Err(DeviceError::Failed(why.clone(alloc)?)),
+            Err(DeviceError::OutOfMemory) => Err(DeviceError::OutOfMemory),
         }
     }
 
