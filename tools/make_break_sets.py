@@ -1584,6 +1584,14 @@ def broken_files(records: Records) -> None:
     records[ITEM].message_type[0].field[3].number = 7
 
 
+def equal_ranges(records: Records) -> None:
+    """A field whose number stands in three equal reserved ranges."""
+    message = records[ITEM].message_type[0]
+    for _ in range(2):
+        message.reserved_range.add().CopyFrom(message.reserved_range[0])
+    message.field[3].number = 7
+
+
 def strict_files(records: Records) -> None:
     """A field that breaks two rules of protoc, and none of the linker."""
     field = records[ITEM].message_type[0].field[2]
@@ -1608,6 +1616,8 @@ def run_sets() -> dict[str, bytes]:
     whole = compiled_set([ORDER, SHELF], "--include_source_info")
     broken = compiled([ITEM])
     broken_files(broken)
+    equal = compiled([ITEM])
+    equal_ranges(equal)
     strict = compiled([ITEM])
     strict_files(strict)
     bare = compiled([ITEM])
@@ -1624,6 +1634,7 @@ def run_sets() -> dict[str, bytes]:
         "large-tag": b"\x8a\x80\x80\x80\x10\x00",
         "money": compiled_set([MONEY], "--include_source_info"),
         "broken": descriptor_pb2.FileDescriptorSet(file=broken.values()).SerializeToString(),
+        "equal-ranges": descriptor_pb2.FileDescriptorSet(file=equal.values()).SerializeToString(),
         "strict": descriptor_pb2.FileDescriptorSet(file=strict.values()).SerializeToString(),
         "broken-without-places": descriptor_pb2.FileDescriptorSet(
             file=bare.values()

@@ -8,8 +8,9 @@ use Rattle.pool_changes.specs.Words.{direction_word}
 use Rattle.pool_changes.specs.declared.kinds.Level.{Level}
 use Rattle.pool_changes.specs.declared.told.ToldChanges.{ToldChanges}
 use Rattle.verdict_texts.specs.Annotations.{annotations}
-use Rattle.verdict_texts.specs.Changes.{Marks, quality_changes, quality_of, sarif_changes}
-use Rattle.verdict_texts.specs.Changes.{sarif_of}
+use Rattle.verdict_texts.specs.Changes.{Marks, marked_changes, sarif_changes, sarif_of}
+use Rattle.verdict_texts.specs.Fingerprints.{Marked}
+use Rattle.verdict_texts.specs.Quality.{quality_of}
 use Rattle.verdict_texts.specs.declared.formats.Format.{Format}
 use Rattle.verdict_texts.specs.declared.formats.Format.TheVariants.{Text, Json, GitHub, GitLab}
 use Rattle.verdict_texts.specs.declared.formats.Format.TheVariants.{Sarif}
@@ -26,15 +27,15 @@ marks_at r level = record {
   against = r.against;
 }
 
--- the changes against an older version as objects of code quality, with a comma before each
-abbrev pub quality_objects : ToldChanges → List ℕ
-quality_objects r =
-    flat_map (λ level. quality_changes (marks_at r level) (changes_of r level)) levels
+-- the changes against an older version and their marks, level by level
+abbrev pub marked_at_levels : ToldChanges → List Marked
+marked_at_levels r =
+    flat_map (λ level. marked_changes (marks_at r level) (changes_of r level)) levels
 
 -- the changes as a report of code quality; where nothing was compared, that of the verdict
 abbrev pub quality_report : List ToldChanges → List ℕ → List ℕ
 quality_report [] report = report
-quality_report (r ∷ rs) report = quality_of (behind_first 44 (flat_map quality_objects (r ∷ rs)))
+quality_report (r ∷ rs) report = quality_of (flat_map marked_at_levels (r ∷ rs))
 
 -- the changes against an older version as results of SARIF, with a comma before each
 abbrev pub sarif_results : ToldChanges → List ℕ

@@ -1,16 +1,17 @@
 //! What an accepted batch changes of older versions, in each format.
 
-ghost use Rattle.std.specs.Prelude.{◌≡◌, ◌++◌, IfOk, OnOk, string_bytes};
+ghost use Rattle.std.specs.Prelude.{◌≡◌, ◌++◌, IfOk, OnOk, map, string_bytes};
 ghost use Rattle.std.specs.List.{flat_map};
 ghost use Rattle.pool_changes.specs.Texts.{changes_lines};
 ghost use Rattle.verdict_texts.specs.Changes.{marks};
+ghost use Rattle.verdict_texts.specs.Fingerprints.{marked};
 ghost use Rattle.descriptor_check.specs.ChangeFormats as spec;
 
 use pool_changes::{
     Level, ToldChanges, behind_comma, compared_entries, levels, with_changes, write_changes,
 };
 use std::alloc::{AllocError, Global};
-use verdict_texts::{ChangeMarks, Format, annotations_text, quality_of, sarif_of};
+use verdict_texts::{ChangeMarks, Format, Marked, annotations_text, quality_of, sarif_of};
 
 /// Writes the lines of changes.
 fn write_each(alloc: Global, text: &mut String, told: &[ToldChanges]) -> Result<(), AllocError>
@@ -62,31 +63,32 @@ fn marks_at(changes: &ToldChanges, level: Level) -> ChangeMarks<'_>
     }
 }
 
-/// Writes the changes of each level as objects of GitLab's code quality, with a comma before each.
-fn write_objects(alloc: Global, text: &mut String, changes: &ToldChanges) -> Result<(), AllocError>
-    ensures { OnOk result (string_bytes text.new ≡ string_bytes text.old
-        ++ spec.quality_objects changes.now) }
+/// Appends the changes of each level and their marks.
+fn push_marked<'a>(
+    alloc: Global,
+    all: &mut Vec<Marked<'a>>,
+    changes: &'a ToldChanges,
+) -> Result<(), AllocError>
+    ensures { OnOk result (map marked all.new.items ≡ map marked all.old.items
+        ++ spec.marked_at_levels changes.now) }
 {
     for level in levels() {
         let marks = marks_at(changes, *level);
-        marks.write_quality(alloc, text, changes.at(*level))?;
+        marks.push_marked(alloc, all, changes.at(*level))?;
     }
     Ok(())
 }
 
-/// Writes changes as objects of GitLab's code quality, with a comma before each.
-fn write_all_objects(
-    alloc: Global,
-    text: &mut String,
-    told: &[ToldChanges],
-) -> Result<(), AllocError>
-    ensures { OnOk result (string_bytes text.new ≡ string_bytes text.old
-        ++ flat_map spec.quality_objects told.now) }
+/// All changes that are told, and their marks.
+fn all_marked(alloc: Global, told: &[ToldChanges]) -> Result<Vec<Marked<'_>>, AllocError>
+    ensures { IfOk result (λ all. map marked all.items
+        ≡ flat_map spec.marked_at_levels told.now) }
 {
+    let mut all = Vec::new(alloc);
     for changes in told {
-        write_objects(alloc, text, changes)?;
+        push_marked(alloc, &mut all, changes)?;
     }
-    Ok(())
+    Ok(all)
 }
 
 /// The changes as a report of GitLab's code quality; where nothing was compared, that of the
@@ -97,9 +99,8 @@ fn quality_report(alloc: Global, told: &[ToldChanges], report: &str) -> Result<S
     if told.is_empty() {
         return String::from_str(alloc, report);
     }
-    let mut objects = String::new(alloc);
-    write_all_objects(alloc, &mut objects, told)?;
-    quality_of(alloc, behind_comma(objects.as_str()))
+    let all = all_marked(alloc, told)?;
+    quality_of(alloc, all.as_slice())
 }
 
 /// Writes the changes of each level as results of SARIF, with a comma before each.

@@ -15,3 +15,4 @@ pub mod Standing
 pub mod Results
 pub mod OneLine
 pub mod ReadEscapes
+pub mod Apart

@@ -1,9 +1,10 @@
--- What changes of older versions, as a report of GitLab's code quality and as a log of SARIF.
-use Rattle.std.specs.Prelude.{ℕ, List, ◌∷◌, ◌++◌, codes}
+-- What changes of older versions: in a report of GitLab's code quality, and as a log of SARIF.
+use Rattle.std.specs.Prelude.{ℕ, List, ◌∷◌, ◌++◌, codes, map}
 use Rattle.std.specs.List.{flat_map}
 use Rattle.verdict_texts.specs.declared.telling.ToldFault.{ToldFault}
+use Rattle.verdict_texts.specs.Fingerprints.{Marked}
 use Rattle.verdict_texts.specs.Members.{key, next_key, text_member, next_text_member}
-use Rattle.verdict_texts.specs.Quality.{fingerprint, marked_object}
+use Rattle.verdict_texts.specs.Quality.{fault_mark}
 use Rattle.verdict_texts.specs.Sarif.{result_members}
 use Rattle.verdict_texts.specs.declared.change_rules.TheConstants.{CHANGE_RULES}
 use Rattle.verdict_texts.specs.declared.changes.ChangeMarks as lent
@@ -19,19 +20,14 @@ pub record Marks : Type 0 where
 abbrev pub marks : lent.ChangeMarks → Marks
 marks m = record { level = m.level.now; direction = m.direction.now; against = m.against.now }
 
--- what tells a change from the others of a report: the direction, the older version, and what tells
--- a fault from others
-unfoldable pub change_fingerprint : Marks → ToldFault → List ℕ
-change_fingerprint m told =
-    m.direction ++ (codes " " ++ (m.against ++ (codes " " ++ fingerprint told)))
+-- the mark of a change: the direction, the older version, and the mark of a fault
+unfoldable pub change_mark : Marks → ToldFault → List ℕ
+change_mark m told =
+    m.direction ++ (codes " " ++ (m.against ++ (codes " " ++ fault_mark told)))
 
--- changes as objects of code quality, with a comma before each
-abbrev pub quality_changes : Marks → List ToldFault → List ℕ
-quality_changes m told = flat_map (λ f. 44 ∷ marked_object (change_fingerprint m f) f) told
-
--- a report of code quality, by its objects
-abbrev pub quality_of : List ℕ → List ℕ
-quality_of objects = codes "[" ++ (objects ++ codes "]\n")
+-- changes and their marks
+abbrev pub marked_changes : Marks → List ToldFault → List Marked
+marked_changes m told = map (λ f. record { mark = change_mark m f; told = f }) told
 
 -- the marks of a change, as an object
 unfoldable pub marks_object : Marks → List ℕ

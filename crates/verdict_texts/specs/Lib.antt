@@ -23,6 +23,7 @@ pub mod Percent
 pub mod Members
 pub mod Texts
 pub mod Annotations
+pub mod Fingerprints
 pub mod Quality
 pub mod Sarif
 pub mod Changes

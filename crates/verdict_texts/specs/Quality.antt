@@ -1,11 +1,12 @@
 -- Faults as a report of GitLab's code quality: an array of objects of JSON.
-use Rattle.std.specs.Prelude.{ℕ, List, [], ◌∷◌, ◌++◌, codes}
+use Rattle.std.specs.Prelude.{ℕ, List, [], ◌∷◌, ◌++◌, codes, map}
 use Rattle.std.specs.Fmt.{signed_decimal}
 use Rattle.std.specs.List.{flat_map}
 use Rattle.std.specs.Option.{option_map_or}
 use Rattle.std.specs.declared.option.Option.{Option}
 use Rattle.verdict_texts.specs.declared.telling.ToldFault.{ToldFault}
 use Rattle.verdict_texts.specs.declared.telling.ToldPlace.{ToldPlace}
+use Rattle.verdict_texts.specs.Fingerprints.{Marked, apart}
 use Rattle.verdict_texts.specs.Members.{key, next_key, text_member, next_text_member}
 use Rattle.verdict_texts.specs.Texts.{position_of, told_text}
 
@@ -13,10 +14,9 @@ use Rattle.verdict_texts.specs.Texts.{position_of, told_text}
 abbrev pub place_mark : ToldPlace → List ℕ
 place_mark place = codes " " ++ (place.file ++ flat_map (λ n. 32 ∷ signed_decimal n) place.path)
 
--- what tells a fault from the others of a report, and from those of another report: its kind, its
--- file, its path and its text, but not its line
-unfoldable pub fingerprint : ToldFault → List ℕ
-fingerprint told =
+-- the mark of a fault: its kind, its file, its path and its text, but not its line
+unfoldable pub fault_mark : ToldFault → List ℕ
+fault_mark told =
     told.code ++ (option_map_or place_mark told.place [] ++ (codes " " ++ told.message))
 
 -- the name of the file of a fault, which is empty where it shows none
@@ -54,22 +54,25 @@ quality_severity = next_text_member (codes "severity") (codes "critical")
 unfoldable pub quality_place : Option ToldPlace → List ℕ
 quality_place place = next_key (codes "location") ++ quality_location place
 
--- a fault by what tells it from others: its text, its kind, this, how severe it is, and where it
--- stands
-unfoldable pub marked_object : List ℕ → ToldFault → List ℕ
-marked_object mark told =
-    quality_head told ++ (next_text_member (codes "fingerprint") mark ++ (quality_severity
-    ++ (quality_place told.place ++ codes "}")))
-
--- a fault as an object
-unfoldable pub quality_object : ToldFault → List ℕ
-quality_object told = marked_object (fingerprint told) told
+-- a fault as an object: its text, its kind, its mark, how severe it is, and where it stands
+unfoldable pub quality_object : Marked → List ℕ
+quality_object one =
+    quality_head one.told ++ (next_text_member (codes "fingerprint") one.mark
+    ++ (quality_severity ++ (quality_place one.told.place ++ codes "}")))
 
 -- objects with a comma between each two
-abbrev pub quality_objects : List ToldFault → List ℕ
+abbrev pub quality_objects : List Marked → List ℕ
 quality_objects [] = []
-quality_objects (f ∷ fs) = quality_object f ++ flat_map (λ g. 44 ∷ quality_object g) fs
+quality_objects (one ∷ all) = quality_object one ++ flat_map (λ next. 44 ∷ quality_object next) all
+
+-- the report of faults or changes by their marks
+abbrev pub quality_of : List Marked → List ℕ
+quality_of all = codes "[" ++ (quality_objects (apart all) ++ codes "]\n")
+
+-- a fault and its mark
+abbrev pub marked_fault : ToldFault → Marked
+marked_fault told = record { mark = fault_mark told; told = told }
 
 -- the report of faults
 abbrev pub quality : List ToldFault → List ℕ
-quality told = codes "[" ++ (quality_objects told ++ codes "]\n")
+quality told = quality_of (map marked_fault told)

@@ -1,13 +1,16 @@
-//! What changes of older versions, as a report of GitLab's code quality and as a log of SARIF.
+//! What changes of older versions: in a report of GitLab's code quality, and as a log of SARIF.
 
-ghost use Rattle.std.specs.Prelude.{◌≡◌, ◌++◌, IfOk, OnOk, string_bytes};
+ghost use Rattle.std.specs.Prelude.{◌≡◌, ◌++◌, IfOk, OnOk, map, string_bytes};
 ghost use Rattle.verdict_texts.specs.Changes as spec;
+ghost use Rattle.verdict_texts.specs.Fingerprints.{marked};
 
 use crate::ToldFault;
 use crate::change_rules::CHANGE_RULES;
+use crate::fingerprints::Marked;
 use crate::members::{write_key, write_next_key, write_next_text_member, write_text_member};
-use crate::quality::{fingerprint, write_marked};
+use crate::quality::fault_mark;
 use crate::sarif::write_result_members;
+use plain_data::Text;
 use std::alloc::{AllocError, Global};
 
 /// What is told of changes besides.
@@ -22,16 +25,15 @@ pub struct ChangeMarks<'a> {
 }
 
 impl ChangeMarks<'_> {
-    /// What tells a change from the others of a report: the direction, the older version, and what
-    /// tells a fault from others.
-    #[tactic(auto, unfolding(crate::specs::Changes::change_fingerprint))]
-    fn fingerprint(self, alloc: Global, told: &ToldFault) -> Result<String, AllocError>
+    /// The mark of a change: the direction, the older version, and the mark of a fault.
+    #[tactic(auto, unfolding(crate::specs::Changes::change_mark))]
+    fn mark(self, alloc: Global, told: &ToldFault) -> Result<String, AllocError>
         ensures { IfOk result (λ s. string_bytes s
-            ≡ spec.change_fingerprint (spec.marks self.entry) told.now) }
+            ≡ spec.change_mark (spec.marks self.entry) told.now) }
     {
         let direction = self.direction;
         let against = self.against;
-        let mark = fingerprint(alloc, told)?;
+        let mark = fault_mark(alloc, told)?;
         let mark = mark.as_str();
         format!(in alloc; "{direction} {against} {mark}")
     }
@@ -66,23 +68,25 @@ impl ChangeMarks<'_> {
         text.push_str("}")
     }
 
-    /// Writes changes as objects of GitLab's code quality, with a comma before each.
+    /// Appends changes and their marks, for a report of GitLab's code quality.
     ///
     /// # Errors
     /// `AllocError` where memory was refused.
-    pub fn write_quality(
+    pub fn push_marked<'t>(
         self,
         alloc: Global,
-        text: &mut String,
-        told: &[ToldFault],
+        all: &mut Vec<Marked<'t>>,
+        told: &'t [ToldFault],
     ) -> Result<(), AllocError>
-        ensures { OnOk result (string_bytes text.new ≡ string_bytes text.old
-            ++ spec.quality_changes (spec.marks self.entry) told.now) }
+        ensures { OnOk result (map marked all.new.items ≡ map marked all.old.items
+            ++ spec.marked_changes (spec.marks self.entry) told.now) }
     {
         for change in told {
-            let mark = self.fingerprint(alloc, change)?;
-            text.push(',')?;
-            write_marked(alloc, text, mark.as_str(), change)?;
+            let mark = self.mark(alloc, change)?;
+            all.push(Marked {
+                mark: Text::from_string(mark),
+                told: change,
+            })?;
         }
         Ok(())
     }
@@ -106,16 +110,6 @@ impl ChangeMarks<'_> {
         }
         Ok(())
     }
-}
-
-/// A report of GitLab's code quality, by its objects with a comma between each two.
-///
-/// # Errors
-/// `AllocError` where memory was refused.
-pub fn quality_of(alloc: Global, objects: &str) -> Result<String, AllocError>
-    ensures { IfOk result (λ s. string_bytes s ≡ spec.quality_of objects.now) }
-{
-    format!(in alloc; "[{objects}]\n")
 }
 
 /// The beginning of a log, with its one run: the tool and the kinds of changes.

@@ -1,6 +1,7 @@
 //! Laws of the formats. A call does nothing: its contract is the law.
 
 ghost use Rattle.verdict_texts.specs.Annotations.{AnnotationsEndOnce};
+ghost use Rattle.verdict_texts.specs.Fingerprints.{FingerprintsDiffer};
 ghost use Rattle.verdict_texts.specs.Percent.{EscapesReadBack};
 
 /// An annotation has one line feed, its last byte: no text of a fault begins a line of its own.
@@ -12,4 +13,9 @@ pub fn annotations_end_once()
 /// of.
 pub fn escapes_read_back()
     ensures { EscapesReadBack }
+{}
+
+/// No two faults or changes of a report of GitLab's code quality have one fingerprint.
+pub fn fingerprints_differ()
+    ensures { FingerprintsDiffer }
 {}

@@ -1,14 +1,17 @@
 //! Faults as a report of GitLab's code quality.
 
-ghost use Rattle.std.specs.Prelude.{◌≡◌, [], ◌∷◌, ◌++◌, IfOk, OnOk, string_bytes};
+ghost use Rattle.std.specs.Prelude.{◌≡◌, [], ◌∷◌, ◌++◌, IfOk, OnOk, map, string_bytes};
 ghost use Rattle.std.specs.Fmt.{signed_decimal};
 ghost use Rattle.std.specs.List.{flat_map};
 ghost use Rattle.std.specs.Option.{option_map_or};
+ghost use Rattle.verdict_texts.specs.Fingerprints.{marked};
 ghost use Rattle.verdict_texts.specs.Quality as spec;
 
+use crate::fingerprints::{Marked, apart};
 use crate::members::{write_key, write_next_key, write_next_text_member, write_text_member};
 use crate::texts::{position_of, told_text};
 use crate::{ToldFault, ToldPlace};
+use plain_data::Text;
 use std::alloc::{AllocError, Global};
 
 /// Writes the numbers of a path, each behind a space.
@@ -38,10 +41,10 @@ fn write_mark(text: &mut String, place: &Option<ToldPlace>) -> Result<(), AllocE
     }
 }
 
-/// What tells a fault from others: its kind, its file, its path and its text, but not its line.
-#[tactic(auto, unfolding(crate::specs::Quality::fingerprint))]
-pub(crate) fn fingerprint(alloc: Global, told: &ToldFault) -> Result<String, AllocError>
-    ensures { IfOk result (λ s. string_bytes s ≡ spec.fingerprint told.now) }
+/// The mark of a fault: its kind, its file, its path and its text, but not its line.
+#[tactic(auto, unfolding(crate::specs::Quality::fault_mark))]
+pub(crate) fn fault_mark(alloc: Global, told: &ToldFault) -> Result<String, AllocError>
+    ensures { IfOk result (λ s. string_bytes s ≡ spec.fault_mark told.now) }
 {
     let mut text = String::from_str(alloc, told.code.as_str())?;
     write_mark(&mut text, &told.place)?;
@@ -141,45 +144,72 @@ fn write_place(text: &mut String, place: &Option<ToldPlace>) -> Result<(), Alloc
     write_location(text, place)
 }
 
-/// Writes a fault as an object, by what tells it from others.
-#[tactic(auto, unfolding(crate::specs::Quality::marked_object))]
-pub(crate) fn write_marked(
-    alloc: Global,
-    text: &mut String,
-    mark: &str,
-    told: &ToldFault,
-) -> Result<(), AllocError>
+/// Writes a fault as an object.
+#[tactic(auto, unfolding(crate::specs::Quality::quality_object))]
+fn write_object(alloc: Global, text: &mut String, one: &Marked) -> Result<(), AllocError>
     ensures { OnOk result (string_bytes text.new ≡ string_bytes text.old
-        ++ spec.marked_object mark.now told.now) }
+        ++ spec.quality_object (marked one.now)) }
 {
-    write_head(alloc, text, told)?;
-    write_next_text_member(text, "fingerprint", mark)?;
+    write_head(alloc, text, one.told)?;
+    write_next_text_member(text, "fingerprint", one.mark.as_str())?;
     write_severity(text)?;
-    write_place(text, &told.place)?;
+    write_place(text, &one.told.place)?;
     text.push_str("}")?;
     Ok(())
 }
 
-/// Writes a fault as an object.
-#[tactic(auto, unfolding(crate::specs::Quality::quality_object))]
-fn write_object(alloc: Global, text: &mut String, told: &ToldFault) -> Result<(), AllocError>
-    ensures { OnOk result (string_bytes text.new ≡ string_bytes text.old
-        ++ spec.quality_object told.now) }
-{
-    let mark = fingerprint(alloc, told)?;
-    write_marked(alloc, text, mark.as_str(), told)
-}
-
 /// Writes faults as objects, with a comma before each.
-fn write_further(alloc: Global, text: &mut String, told: &[ToldFault]) -> Result<(), AllocError>
+fn write_further(alloc: Global, text: &mut String, all: &[Marked]) -> Result<(), AllocError>
     ensures { OnOk result (string_bytes text.new ≡ string_bytes text.old
-        ++ flat_map (λ g. 44 ∷ spec.quality_object g) told.now) }
+        ++ flat_map (λ one. 44 ∷ spec.quality_object (marked one)) all.now) }
 {
-    for fault in told {
+    for one in all {
         text.push(',')?;
-        write_object(alloc, text, fault)?;
+        write_object(alloc, text, one)?;
     }
     Ok(())
+}
+
+/// Writes faults as objects, with a comma between each two.
+fn write_objects(alloc: Global, text: &mut String, all: &[Marked]) -> Result<(), AllocError>
+    ensures { OnOk result (string_bytes text.new ≡ string_bytes text.old
+        ++ spec.quality_objects (map marked all.now)) }
+{
+    if let [first, rest @ ..] = all {
+        write_object(alloc, text, first)?;
+        write_further(alloc, text, rest)?;
+    }
+    Ok(())
+}
+
+/// A report of GitLab's code quality of faults or changes by their marks, on one line. Each has its
+/// fingerprint there, and no two have the same.
+///
+/// # Errors
+/// `AllocError` where memory was refused.
+pub fn quality_of(alloc: Global, all: &[Marked]) -> Result<String, AllocError>
+    ensures { IfOk result (λ s. string_bytes s ≡ spec.quality_of (map marked all.now)) }
+{
+    let told = apart(alloc, all)?;
+    let mut text = String::from_str(alloc, "[")?;
+    write_objects(alloc, &mut text, told.as_slice())?;
+    text.push_str("]\n")?;
+    Ok(text)
+}
+
+/// Faults and their marks.
+fn marked_faults(alloc: Global, told: &[ToldFault]) -> Result<Vec<Marked<'_>>, AllocError>
+    ensures { IfOk result (λ all. map marked all.items ≡ map spec.marked_fault told.now) }
+{
+    let mut all = Vec::new(alloc);
+    for fault in told {
+        let mark = fault_mark(alloc, fault)?;
+        all.push(Marked {
+            mark: Text::from_string(mark),
+            told: fault,
+        })?;
+    }
+    Ok(all)
 }
 
 /// Faults as a report of GitLab's code quality, on one line.
@@ -189,11 +219,6 @@ fn write_further(alloc: Global, text: &mut String, told: &[ToldFault]) -> Result
 pub fn quality_text(alloc: Global, told: &[ToldFault]) -> Result<String, AllocError>
     ensures { IfOk result (λ s. string_bytes s ≡ spec.quality told.now) }
 {
-    let mut text = String::from_str(alloc, "[")?;
-    if let [first, rest @ ..] = told {
-        write_object(alloc, &mut text, first)?;
-        write_further(alloc, &mut text, rest)?;
-    }
-    text.push_str("]\n")?;
-    Ok(text)
+    let all = marked_faults(alloc, told)?;
+    quality_of(alloc, all.as_slice())
 }
