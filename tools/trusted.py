@@ -4,14 +4,15 @@
     python3 trusted.py > ../docs/TRUSTED.md
     python3 trusted.py --check
 
-The page has three lists. The first is of the functions of C whose contracts the proof of a program
-or of the library reaches: `rattle check --list-axioms` tells them. The others are of the functions
-that are proved by hand, and of the places where code is `unsafe`: they are read off the files.
+The page has four lists. The first is of the functions of C whose contracts the proof of a program
+or of the library reaches: `rattle check --list-axioms` tells them. The others are of the files that
+no contract binds to the machine, of the functions that are proved by hand, and of the places where
+code is `unsafe`: they are read off the files.
 
 `--check` tells where the page is another than what is printed, with status 1. The last line counts:
 `N passed, M failed, K left out`.
 
-The two programs and the library are checked over the libraries of crates that `rt ci` left, which
+The three programs and the library are checked over the libraries of crates that `rt ci` left, which
 takes a few minutes where they were not checked before. Where it left none, the page can't be made:
 that is said, with status 2, or by --check as what is left out.
 """
@@ -32,8 +33,25 @@ sys.dont_write_bytecode = True
 TOP = Path(__file__).resolve().parent.parent
 CRATES = TOP / "crates"
 PAGE = TOP / "docs" / "TRUSTED.md"
-SHIPPED = ("check_descriptors", "protolink", "protolink_c")
-"""What is handed to users: two programs, and the library for C."""
+SHIPPED = ("check_descriptors", "protoc_gen_protolink", "protolink", "protolink_c")
+"""What is handed to users: three programs, and the library for C."""
+
+DEVICES = {
+    "check_descriptors/src/failures.rt": "makes the words of a call that failed",
+    "check_descriptors/src/host.rt": "reads files and the standard input, and writes to the two "
+    "outputs",
+    "check_descriptors/src/main.rt": "reads the arguments, runs the check, and ends with its status",
+    "check_descriptors/src/parts.rt": "writes a set beside its file, and renames or removes it",
+    "protoc_gen_protolink/src/host.rt": "reads the request and files, and writes to the two outputs",
+    "protoc_gen_protolink/src/main.rt": "runs the plugin, and ends with its status",
+    "protolink/src/main.rt": "runs the script, and ends with its status",
+    "script_devices/src/reader_input.rt": "reads a script from the standard input",
+    "script_devices/src/writer_output.rt": "writes a report to the standard output",
+}
+"""What each file does that no contract binds to the machine."""
+
+MACHINE = re.compile(r"\bHostRuntime\b|\bstd::io::\{?[^;]*\b(Read|Write|Error)\b")
+"""What a file names that reads from the machine or writes to it."""
 
 MARK = re.compile(r"^ +(\S+) +reached$", re.MULTILINE)
 """A line of the list of the functions of C that are declared, of one that is reached."""
@@ -46,11 +64,13 @@ A proof is worth what it rests on. Those of this repository rest on what this pa
 - **The toolchain.** Its checker judges the proofs, by its model of what code does. Its compiler makes machine code of what was proved, by LLVM or by a back end of its own. No proof of this repository speaks of either ([which line of the toolchain](../README.md#what-is-trusted)).
 - **The definitions.** A contract says that a call does what a definition says. Whether that is what protobuf means, people judge who read it. [PROVED.md](PROVED.md) names the definitions of each call.
 - **Functions of C.** Rattle's standard library calls them. Each has a contract, which says what the C library or the operating system does. Nothing checks that they do so. They are [listed below](#functions-of-c).
-- **Callers in C.** They keep to what [protolink.h](../include/protolink.h) asks of them. The header and the bindings are tested and not proved ([C.md](C.md#what-is-trusted)).
+- **Devices.** What a program reads and writes goes through a few files that no contract binds to the machine. They are tested, and [listed below](#devices).
+- **Callers in C.** They keep to what [protolink.h](../include/protolink.h) asks of them. That header with its inline functions, [protolink.hpp](../include/protolink.hpp), and the bindings in Rust and Python are tested and not proved ([C.md](C.md#what-is-trusted)).
 
 Nothing is assumed besides. `rt ci` refuses a proof with a hole, and an axiom or a function of C that this repository declares.
 
 - [Functions of C](#functions-of-c)
+- [Devices](#devices)
 - [Proved by hand](#proved-by-hand)
 - [Unsafe code](#unsafe-code)
 """
@@ -59,6 +79,15 @@ FUNCTIONS = """\
 ## Functions of C
 
 The standard library declares many more. What is handed to users reaches these {count}. A column for each program, and one for the library for C (`protolink_c`), says which it reaches.
+"""
+
+DEVICES_HEAD = """\
+## Devices
+
+The contract of a program's `run` speaks of devices: of the words and bytes that these say they read and wrote. No contract of the standard library says which arguments a program has, what a file or a stream holds, or what was written. So nothing proves that these {count} files, of {lines} lines together, hand on what the system gave and write what they are handed. Nor does anything prove it of the calls of `std::env`, `std::fs` and `std::io` that they make. [PROVED.md](PROVED.md#descriptor_check-a-run-of-the-check) says what is proved of the programs all the same. The files are proved as all code is: they are safe, they end, and each function does what its contract says. The stored runs and `tools/test_tools.py` test the rest.
+
+| file | lines | what it does |
+|---|---|---|
 """
 
 BY_HAND = """\
@@ -100,6 +129,29 @@ def reached(crate: str) -> set[str]:
     return set(MARK.findall(ran.stdout + ran.stderr))
 
 
+def devices() -> dict[str, int]:
+    """The files of what is shipped that read from the machine or write to it, with their lines."""
+    tool = library()
+    known = tool.crates()
+    crates = {name for crate in SHIPPED for name in (crate, *tool.below(crate, known))}
+    paths = (path for crate in sorted(crates) for path in (CRATES / crate / "src").rglob("*.rt"))
+    found = {path: path.read_text() for path in sorted(paths) if path.stem != "tests"}
+    return {
+        str(path.relative_to(CRATES)): text.count("\n")
+        for path, text in found.items()
+        if MACHINE.search(text)
+    }
+
+
+def device_rows() -> Iterator[str]:
+    """A row for each such file. One that has no words is an error, and so are words of no file."""
+    found = devices()
+    if found.keys() != DEVICES.keys():
+        sys.exit(f"trusted.py: DEVICES is not of these files: {', '.join(found)}")
+    for path, lines in found.items():
+        yield f"| `crates/{path}` | {lines} | {DEVICES[path]} |"
+
+
 def by_hand() -> list[str]:
     """The functions that are proved by hand, each as its crate, its modules and its name."""
     ends = (path.parent.relative_to(CRATES).parts for path in CRATES.glob("*/proofs/**/Proof.antt"))
@@ -127,8 +179,10 @@ def page(calls: dict[str, set[str]]) -> str:
         "|" + "---|" * (len(calls) + 1),
         *rows,
     ]
+    sizes = devices().values()
     lists = (
         (FUNCTIONS.format(count=len(names)), table),
+        (DEVICES_HEAD.format(count=len(sizes), lines=sum(sizes)).rstrip("\n"), device_rows()),
         (BY_HAND, [f"- `{name}`" for name in by_hand()]),
         (UNSAFE, [f"- {place}" for place in unsafe_places()]),
     )
