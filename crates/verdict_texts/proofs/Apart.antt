@@ -87,13 +87,14 @@ none-later mark n before [] below small = tt
 none-later mark n before (other ∷ all) below small =
     let most : times other.mark before ≤ length before = count_by-le-length (bytes_eq other.mark) before in
     let counted : times mark before ≤ length before = count_by-le-length (bytes_eq mark) before in
-    let more : times mark before ≤ times mark (other.mark ∷ before) = times-more mark other.mark before in
-    (apart-from _ _ (λ same.
-        let parts = fingerprint-injective mark other.mark n (times other.mark before + 1) (omega arith) (omega arith) same in
-        let number : n ≡ times other.mark before + 1 = parts.1 in
-        let equal : times mark before ≡ times other.mark before = ap (λ m. times m before) parts.0 in
-        omega arith),
-    none-later mark n (other.mark ∷ before) all (omega arith) (omega arith))
+    let more : times mark before ≤ times mark (other.mark ∷ before) = times-more mark other.mark before in (
+      apart-from _ _ (λ same.
+          let parts = fingerprint-injective mark other.mark n (times other.mark before + 1) (omega arith) (omega arith) same in
+          let number : n ≡ times other.mark before + 1 = parts.1 in
+          let equal : times mark before ≡ times other.mark before = ap (λ m. times m before) parts.0 in
+          omega arith),
+      none-later mark n (other.mark ∷ before) all (omega arith) (omega arith),
+    )
 
 differ : (before : List (List ℕ)) (all : List Marked) → length before + length all < 2 ^ 64 → IsDistinct bytes_eq (map (λ one. one.mark) (apart_after before all))
 unfolding IsDistinct
@@ -112,7 +113,7 @@ after before (other ∷ all) one =
     let marks = map (λ (m : Marked). m.mark) all in
     let mark = one.mark in
     let turned : times mark (other.mark ∷ before) + times mark marks + 1 ≡ times mark before + times mark (other.mark ∷ marks) + 1 =
-        omega (arith, times-cons mark other.mark before, times-cons mark other.mark marks) in
+    omega (arith, times-cons mark other.mark before, times-cons mark other.mark marks) in
     ap (λ rest. record other { mark = fingerprint other.mark (times other.mark before + 1) } ∷ rest)
     (after (other.mark ∷ before) all one ∙ ap (λ n. apart_after (other.mark ∷ before) all ++ record one { mark = fingerprint mark n } ∷ []) turned)
 
