@@ -6,3 +6,4 @@ pub mod Free
 pub mod Chained
 pub mod Tests
 pub mod Held
+pub mod Unkept

@@ -10,3 +10,4 @@ pub mod Changes
 pub mod Unchanged
 pub mod Pools
 pub mod Chains
+pub mod Lost

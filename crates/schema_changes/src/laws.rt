@@ -8,6 +8,8 @@ ghost use Rattle.message_values.specs.Carried.{AreCarried};
 ghost use Rattle.pool_types.specs.Contents.{Contents};
 ghost use Rattle.schema_changes.specs.Parts.{Parts, parts_of, one_name};
 ghost use Rattle.schema_changes.specs.Entries.{schema_of};
+ghost use Rattle.schema_changes.specs.Lost.{CardinalityIsLost, KindIsLost, OneofIsLost};
+ghost use Rattle.schema_changes.specs.Lost.{RequiredIsLost};
 ghost use Rattle.schema_changes.specs.Unchanged.{LookUp, IsClosed, NothingIsLost, LeavesOut};
 ghost use Rattle.schema_changes.specs.Pools.{NamesMean, wire_losses};
 ghost use Rattle.schema_changes.specs.Chains.{last_of, goes_on, AllLookUp, NoneChanges};
@@ -48,4 +50,14 @@ pub fn chains()
         → IsRead (schema_of (parts_of (last_of first later))) levels n vs
         × AreCarried (schema_of (parts_of first)) (schema_of (parts_of (last_of first later)))
         levels m n vs }
+{}
+
+/// What a new entry does not keep of an old one that is scalar is lost, wherever the old schema
+/// writes the message at all and no field of a oneof is required: its kind, that it is repeated, and
+/// that it is in no oneof with another. So is what an entry asks that is newly required.
+pub fn loss_is_lost()
+    ensures kinds { KindIsLost }
+    ensures cardinalities { CardinalityIsLost }
+    ensures required { RequiredIsLost }
+    ensures oneofs { OneofIsLost }
 {}

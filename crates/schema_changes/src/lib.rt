@@ -19,5 +19,5 @@ pub use compared::Compared;
 pub use entries::{Entry, extension_entry, field_entry};
 pub use kinds::messages_of;
 pub use lacking::lacking_number;
-pub use laws::{chains, no_loss_is_read, unchanged_is_read};
+pub use laws::{chains, loss_is_lost, no_loss_is_read, unchanged_is_read};
 pub use parts::Parts;
