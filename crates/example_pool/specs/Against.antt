@@ -3,10 +3,11 @@ use Rattle.std.specs.Prelude.{◌≡◌, ℕ, false, true, List, Ok}
 use Rattle.std.specs.List.{Contains}
 use Rattle.pool_types.specs.Contents.{Contents}
 use Rattle.schema_changes.specs.Parts.{parts_of, one_name}
+use Rattle.pool_changes.specs.Comparing.{directions}
 use Rattle.pool_changes.specs.Laws.{ReadsAlike}
 use Rattle.pool_changes.specs.Sides.{Versions, writer, reader}
 use Rattle.pool_changes.specs.declared.direction.Direction.{Direction}
-use Rattle.descriptor_check.specs.Against.{answer_against, directions}
+use Rattle.descriptor_check.specs.Against.{answer_against, compatibility_wanted}
 use Rattle.descriptor_check.specs.Olders.{older_of}
 use Rattle.descriptor_check.specs.declared.answer.Answer.{Answer}
 use Rattle.descriptor_check.specs.declared.answer.Status.TheVariants as status
@@ -31,7 +32,7 @@ abbrev pub AcceptedIsRead : Wanted → List Input → List Input → Answer → 
 AcceptedIsRead w olders inputs a old new =
     a ≡ answer_against w olders inputs → a.status ≡ status.Accepted
     → (i : Input) → Contains olders i → OlderAs w i old → AcceptedAs w inputs new
-    → (d : Direction) → Contains (directions w.compatibility) d
+    → (d : Direction) → Contains (directions (compatibility_wanted w)) d
     → ReadsIn (record { direction = d; old = old; new = new })
 
 -- law: it ends so only where the inputs are accepted, with a pool, and so is each older version
