@@ -152,6 +152,13 @@ enum protolink_levels {
     PROTOLINK_LEVEL_SOURCE = 2 /* besides, what code that is made of the files has otherwise */
 };
 
+/* Which of two pools is to read what the other writes. */
+enum protolink_compatibilities {
+    PROTOLINK_COMPATIBILITY_BACKWARD = 0, /* the new one what the older one writes */
+    PROTOLINK_COMPATIBILITY_FORWARD = 1,  /* the older one what the new one writes */
+    PROTOLINK_COMPATIBILITY_FULL = 2      /* each what the other writes: both directions */
+};
+
 /* The version of the language: of a file. */
 enum protolink_syntaxes {
     PROTOLINK_PROTO2 = 2,
@@ -465,23 +472,25 @@ protolink_status protolink_pool_extension(
 protolink_status protolink_pool_clone(protolink_pool *pool, protolink_pool *copy);
 
 /*
- * WHAT A POOL CHANGES OF AN OLDER ONE, as an object of JSON on one line: where a reader of the
- * files of `pool` reads otherwise what a writer of the files of `older` writes, or not at all, and
- * more at the higher levels (docs/CHANGES.md). To ask what an older reader reads of what a new
- * writer writes, the two change places. They may be one pool.
+ * WHAT A POOL CHANGES OF AN OLDER ONE, as an object of JSON on one line. Backward it is where a
+ * reader of the files of `pool` reads otherwise, or not at all, what a writer of the files of
+ * `older` writes. Forward it is where a reader of the files of `older` does so with what a writer
+ * of the files of `pool` writes. The higher levels have more (docs/CHANGES.md). `level` is one of
+ * the levels, and `compatibility` one of the compatibilities. The two may be one pool.
  *
- * The object is what `check_descriptors --against OLD --json NEW` has of an accepted batch, and
- * calls the older version "the older pool". It has the first changes, at most as many as faults
- * are told of `pool`, and how many there are. The text is made anew in each call, also to tell the
- * length that is needed.
+ * The object is what `check_descriptors --against OLD --json NEW` has of an accepted batch, with
+ * the same `--level` and `--compatibility`. It calls the older version "the older pool". Its member
+ * `compared` has an entry of each direction, backward first, with the number of its changes. The
+ * object has the first changes of each direction, at most as many as a report has faults of `pool`.
+ * The text is made anew in each call, also where only the length is asked for.
  *
  *   PROTOLINK_DONE, PROTOLINK_SHORT  as said under TEXTS.
- *   PROTOLINK_NOT_FOUND              there is no such level.
+ *   PROTOLINK_NOT_FOUND              there is no such level, or no such compatibility.
  *   PROTOLINK_NO_MEMORY              memory was refused.
  */
 protolink_status protolink_pool_changes(
-    protolink_pool *pool, protolink_pool *older, uint32_t level, uint8_t *buffer, size_t room,
-    size_t *length);
+    protolink_pool *pool, protolink_pool *older, uint32_t level, uint32_t compatibility,
+    uint8_t *buffer, size_t room, size_t *length);
 
 /*
  * FREE WHAT A POOL OWNS. It is an empty pool then, and may be used again, or cleared again.
@@ -870,12 +879,12 @@ static inline protolink_status protolink_pool_extension_const(
 #define protolink_pool_extension protolink_pool_extension_const
 
 static inline protolink_status protolink_pool_changes_const(
-    const protolink_pool *pool, const protolink_pool *older, uint32_t level, uint8_t *buffer,
-    size_t room, size_t *length)
+    const protolink_pool *pool, const protolink_pool *older, uint32_t level, uint32_t compatibility,
+    uint8_t *buffer, size_t room, size_t *length)
 {
     protolink_pool view = *pool, older_view = *older;
     return protolink_pool_changes(
-        &view, &older_view, level, protolink_buffer_at(buffer), room, length);
+        &view, &older_view, level, compatibility, protolink_buffer_at(buffer), room, length);
 }
 #define protolink_pool_changes protolink_pool_changes_const
 

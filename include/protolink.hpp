@@ -51,6 +51,13 @@ enum class Level : uint32_t {
     source = PROTOLINK_LEVEL_SOURCE
 };
 
+/* Which of two pools is to read what the other writes. */
+enum class Compatibility : uint32_t {
+    backward = PROTOLINK_COMPATIBILITY_BACKWARD,
+    forward = PROTOLINK_COMPATIBILITY_FORWARD,
+    full = PROTOLINK_COMPATIBILITY_FULL
+};
+
 class Pool;
 class File;
 class Message;
@@ -223,10 +230,13 @@ public:
     }
 
     /* What it changes of an older pool, as an object of JSON; none where memory was refused. */
-    std::optional<std::string> changes(const Pool &older, Level level = Level::wire) const
+    std::optional<std::string> changes(
+        const Pool &older, Level level = Level::wire,
+        Compatibility compatibility = Compatibility::backward) const
     {
         return detail::text_of([&](auto... to) {
-            return protolink_pool_changes(&pool_, &older.pool_, uint32_t(level), to...);
+            return protolink_pool_changes(
+                &pool_, &older.pool_, uint32_t(level), uint32_t(compatibility), to...);
         });
     }
 

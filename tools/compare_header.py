@@ -106,7 +106,12 @@ def parts(text: str) -> list[str]:
 SAME_NAME = {"OUT_OF_MEMORY": "NO_MEMORY"}
 """Names in Rattle, and in the header."""
 
-PREFIXES = {"Kind": "TYPE_", "KindIndex": "TYPE_", "Level": "LEVEL_"}
+PREFIXES = {
+    "Kind": "TYPE_",
+    "KindIndex": "TYPE_",
+    "Level": "LEVEL_",
+    "Compatibility": "COMPATIBILITY_",
+}
 """What the header sets before the names of an enum."""
 
 
@@ -295,7 +300,11 @@ def exports() -> Declared:
     constants = plain_constants(text)
     arms = matching(r"\b([A-Z]\w+)::(\w+)(?:\(\w+\))? => \(?(\d+)\b", text)
     constants += [constant(name, number, enum) for enum, name, number in arms]
-    for listed, enum, prefix in (("kinds", "DefinitionKind", ""), ("levels", "Level", "Level")):
+    for listed, enum, prefix in (
+        ("kinds", "DefinitionKind", ""),
+        ("levels", "Level", "Level"),
+        ("compatibilities", "Compatibility", "Compatibility"),
+    ):
         (said,) = matching(rf"let {listed} = \[(.*?)\];", text)
         named = re.findall(rf"\b{enum}::(\w+)", said[0])
         constants += [constant(name, str(number), prefix) for number, name in enumerate(named)]
@@ -342,7 +351,11 @@ def python() -> Declared:
         + [constant(name, str(number)) for number, name in enumerate(names["KINDS"])]
         + [constant(name, str(number), "Kind") for number, name in enumerate(names["TYPES"], 1)]
         + [constant(name, str(number)) for number, name in enumerate(names["LABELS"], 1)]
-        + [constant(name, str(number), "Level") for number, name in enumerate(names["LEVELS"])],
+        + [constant(name, str(number), "Level") for number, name in enumerate(names["LEVELS"])]
+        + [
+            constant(name, str(number), "Compatibility")
+            for number, name in enumerate(names["COMPATIBILITIES"])
+        ],
     )
 
 

@@ -117,19 +117,35 @@ static int add_twice(void)
     return 0;
 }
 
+/* How two pools are to be compared. */
+typedef struct asked {
+    uint32_t level;
+    uint32_t compatibility;
+} asked;
+
+static const asked wire = { PROTOLINK_LEVEL_WIRE, PROTOLINK_COMPATIBILITY_BACKWARD };
+static const asked json = { PROTOLINK_LEVEL_JSON, PROTOLINK_COMPATIBILITY_BACKWARD };
+static const asked source = { PROTOLINK_LEVEL_SOURCE, PROTOLINK_COMPATIBILITY_BACKWARD };
+static const asked forward = { PROTOLINK_LEVEL_WIRE, PROTOLINK_COMPATIBILITY_FORWARD };
+static const asked full = { PROTOLINK_LEVEL_WIRE, PROTOLINK_COMPATIBILITY_FULL };
+
 /* What a pool changes of an older one: a part of the object of JSON. */
 static int is_changed(
-    const protolink_pool *pool, const protolink_pool *older, uint32_t level, const char *part)
+    const protolink_pool *pool, const protolink_pool *older, asked by, const char *part)
 {
     static char text[16384];
     size_t length, needed;
     uint8_t *front = (uint8_t *)text;
-    if (protolink_pool_changes(pool, older, level, NULL, 0, &needed) != PROTOLINK_SHORT)
+    protolink_status status =
+        protolink_pool_changes(pool, older, by.level, by.compatibility, NULL, 0, &needed);
+    if (status != PROTOLINK_SHORT || needed >= sizeof text)
         return 0;
-    if (protolink_pool_changes(pool, older, level, front, needed, &length) != PROTOLINK_DONE)
+    status = protolink_pool_changes(
+        pool, older, by.level, by.compatibility, front, needed, &length);
+    if (status != PROTOLINK_DONE || length != needed)
         return 0;
     text[length] = 0;
-    return length == needed && strstr(text, part) != NULL;
+    return strstr(text, part) != NULL;
 }
 
 static const char older[] =
@@ -142,20 +158,53 @@ static int tell_changes(void)
     protolink_pool old_pool = PROTOLINK_POOL_EMPTY, new_pool = PROTOLINK_POOL_EMPTY;
     size_t length = 7;
     WANT(add(&old_pool, older) == PROTOLINK_DONE && add(&new_pool, newer) == PROTOLINK_DONE);
-    WANT(is_changed(&new_pool, &old_pool, PROTOLINK_LEVEL_WIRE, "\"count\":1,\"more\":0"));
-    WANT(is_changed(&new_pool, &old_pool, PROTOLINK_LEVEL_WIRE, "'o.M.g' (1): int64 became int32"));
-    WANT(is_changed(&new_pool, &old_pool, PROTOLINK_LEVEL_WIRE, "\"against\":\"the older pool\""));
-    WANT(is_changed(&new_pool, &old_pool, PROTOLINK_LEVEL_JSON, "\"count\":2,\"more\":0"));
-    WANT(is_changed(&old_pool, &new_pool, PROTOLINK_LEVEL_WIRE, "\"changes\":[],\"verdict\""));
-    WANT(is_changed(&new_pool, &new_pool, PROTOLINK_LEVEL_SOURCE, "\"changes\":[],\"verdict\""));
+    WANT(is_changed(&new_pool, &old_pool, wire, "\"count\":1,\"more\":0"));
+    WANT(is_changed(&new_pool, &old_pool, wire, "'o.M.g' (1): int64 became int32"));
+    WANT(is_changed(&new_pool, &old_pool, wire, "\"against\":\"the older pool\""));
+    WANT(is_changed(&new_pool, &old_pool, json, "\"count\":2,\"more\":0"));
+    WANT(is_changed(&old_pool, &new_pool, wire, "\"changes\":[],\"verdict\""));
+    WANT(is_changed(&new_pool, &new_pool, source, "\"changes\":[],\"verdict\""));
     WANT(protolink_pool_limit_faults(&new_pool, 1) == PROTOLINK_DONE);
-    WANT(is_changed(&new_pool, &old_pool, PROTOLINK_LEVEL_JSON, "\"count\":2,\"more\":1"));
-    WANT(protolink_pool_changes(&new_pool, &old_pool, 3, NULL, 0, &length)
+    WANT(is_changed(&new_pool, &old_pool, json, "\"count\":2,\"more\":1"));
+    WANT(protolink_pool_changes(&new_pool, &old_pool, 3, 0, NULL, 0, &length)
+         == PROTOLINK_NOT_FOUND);
+    WANT(protolink_pool_changes(&new_pool, &old_pool, 0, 3, NULL, 0, &length)
          == PROTOLINK_NOT_FOUND);
     WANT(length == 7);
     protolink_pool_clear(&new_pool);
-    WANT(is_changed(&new_pool, &old_pool, PROTOLINK_LEVEL_WIRE, "\"count\":0"));
-    WANT(is_changed(&new_pool, &old_pool, PROTOLINK_LEVEL_SOURCE, "message-removed"));
+    WANT(is_changed(&new_pool, &old_pool, wire, "\"count\":0"));
+    WANT(is_changed(&new_pool, &old_pool, source, "message-removed"));
+    protolink_pool_clear(&old_pool);
+    return 0;
+}
+
+static const char one_field[] =
+    "file m.proto\nmessage M\nfield a 1 optional int32 ~ ~\nend\nend\n";
+static const char field_added[] =
+    "file m.proto\nmessage M\nfield a 1 optional int32 ~ ~\nfield b 2 optional int32 ~ ~\n"
+    "end\nend\n";
+static const char other_kind[] =
+    "file m.proto\nmessage M\nfield a 1 optional uint32 ~ ~\nend\nend\n";
+
+/* A field that is added changes nothing in either direction; one of another kind does in both. */
+static int tell_directions(void)
+{
+    protolink_pool old_pool = PROTOLINK_POOL_EMPTY, new_pool = PROTOLINK_POOL_EMPTY;
+    WANT(add(&old_pool, one_field) == PROTOLINK_DONE);
+    WANT(add(&new_pool, field_added) == PROTOLINK_DONE);
+    WANT(is_changed(&new_pool, &old_pool, forward, "\"direction\":\"forward\",\"count\":0"));
+    WANT(is_changed(&new_pool, &old_pool, forward, "\"changes\":[],\"verdict\""));
+    WANT(is_changed(&new_pool, &old_pool, full, "\"direction\":\"backward\",\"count\":0"));
+    WANT(is_changed(&new_pool, &old_pool, full, "\"direction\":\"forward\",\"count\":0"));
+    WANT(is_changed(&new_pool, &old_pool, full, "\"changes\":[],\"verdict\""));
+    WANT(is_changed(&old_pool, &new_pool, wire, "number-free"));
+    protolink_pool_clear(&new_pool);
+    WANT(add(&new_pool, other_kind) == PROTOLINK_DONE);
+    WANT(is_changed(&new_pool, &old_pool, forward, "'M.a' (1): int32 became uint32"));
+    WANT(!is_changed(&new_pool, &old_pool, forward, "backward"));
+    WANT(is_changed(&new_pool, &old_pool, full, "[{\"level\":\"wire\",\"direction\":\"backward\""));
+    WANT(is_changed(&new_pool, &old_pool, full, ",{\"level\":\"wire\",\"direction\":\"forward\""));
+    protolink_pool_clear(&new_pool);
     protolink_pool_clear(&old_pool);
     return 0;
 }
@@ -260,6 +309,8 @@ static int one_pool(void)
         status = tell_what_became(&copy);
     if (status == 0)
         status = tell_changes();
+    if (status == 0)
+        status = tell_directions();
     if (status == 0)
         status = add_twice();
     if (status == 0)

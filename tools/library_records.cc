@@ -76,11 +76,30 @@ int read_others(const Pool &pool)
     return 0;
 }
 
+/* A field that is added changes nothing in either direction. */
+bool has_directions()
+{
+    const std::string before = "file m.proto\nmessage M\nfield a 1 optional int32 ~ ~\n";
+    Pool old_pool, new_pool;
+    old_pool.add_script(before + "end\nend\n");
+    new_pool.add_script(before + "field b 2 optional int32 ~ ~\nend\nend\n");
+    const auto has = [&](Compatibility compatibility, std::string_view part) {
+        const auto text = new_pool.changes(old_pool, Level::wire, compatibility);
+        return text && text->find(part) != std::string::npos;
+    };
+    return has(Compatibility::forward, "\"direction\":\"forward\",\"count\":0,\"more\":0")
+        && has(Compatibility::forward, "\"changes\":[],\"verdict\"")
+        && has(Compatibility::full, "\"direction\":\"backward\",\"count\":0")
+        && has(Compatibility::full, "\"direction\":\"forward\",\"count\":0")
+        && old_pool.changes(new_pool)->find("number-free") != std::string::npos;
+}
+
 int read_pools(Pool *pool)
 {
     std::optional<Pool> copy = pool->clone();
     WANT(copy && copy->counts().files == pool->counts().files);
     WANT(copy->changes(*pool, Level::source)->find("\"changes\":[]") != std::string::npos);
+    WANT(has_directions());
     Pool other = std::move(*copy);
     WANT(other.add_set(*pool->linked()) == Status::done && other.report().empty());
     WANT(other.added().passed_over == pool->counts().files && other.added().differing == 0);

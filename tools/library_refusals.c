@@ -144,14 +144,15 @@ static int method_by_name(protolink_pool *pool)
     return protolink_method_by_name(pool, 0, (const uint8_t *)"U", 1, &position);
 }
 
-/* What an empty pool changes of the pool. */
+/* What an empty pool changes of the pool, in both directions. */
 static int changes(protolink_pool *pool)
 {
     protolink_pool none = PROTOLINK_POOL_EMPTY;
     static uint8_t buffer[16384];
     size_t length;
     return protolink_pool_changes(
-        &none, pool, PROTOLINK_LEVEL_SOURCE, buffer, sizeof buffer, &length);
+        &none, pool, PROTOLINK_LEVEL_SOURCE, PROTOLINK_COMPATIBILITY_FULL, buffer, sizeof buffer,
+        &length);
 }
 
 static int has(protolink_pool *pool, const char *name)

@@ -58,7 +58,8 @@ int main(int, char **argv)
         return 1;
     if (protolink_pool_linked(&pool, out.data(), out.size(), &length) != PROTOLINK_DONE)
         return 1;
-    if (protolink_pool_changes(&pool, &pool, PROTOLINK_LEVEL_WIRE, out.data(), out.size(), &length)
+    const uint32_t level = PROTOLINK_LEVEL_WIRE, backward = PROTOLINK_COMPATIBILITY_BACKWARD;
+    if (protolink_pool_changes(&pool, &pool, level, backward, out.data(), out.size(), &length)
         != PROTOLINK_DONE)
         return 1;
     protolink_pool_clear(&pool);

@@ -12,6 +12,7 @@ from __future__ import annotations
 
 import base64
 import copy
+import json
 import math
 import os
 import pickle
@@ -23,8 +24,9 @@ import textwrap
 import threading
 import unittest
 import weakref
-from collections.abc import Callable
+from collections.abc import Callable, Iterator
 from pathlib import Path
+from typing import Any
 
 import protolink
 
@@ -149,6 +151,40 @@ method Get .tour.Outer .tour.Outer.Inner
 end
 end
 """
+
+
+ROWS = Path(__file__).resolve().parents[2] / "crates/test_rows/data/checks/changes"
+"""The rows of the program that compare two versions: arguments, sets, and what is wanted of them."""
+
+DEFAULTS = {"--level": "wire", "--compatibility": "backward", "--max-faults": "100"}
+
+
+def row_pool(name: str) -> protolink.Pool:
+    """The pool of a set of the rows."""
+    pool = protolink.Pool()
+    pool.add_set(ROWS / name)
+    return pool
+
+
+def rows_of_changes() -> Iterator[tuple[dict[str, str], dict[str, Any]]]:
+    """The rows that a pool can be asked for too: what each asks, by the names of its arguments, and
+    the object that is wanted of it."""
+    for path in sorted(ROWS.glob("*.args")):
+        *words, file = path.read_text().splitlines()
+        said = dict(zip(words[::2], words[1::2]))
+        told = path.with_suffix(".json")
+        if said.keys() - DEFAULTS.keys() == {"--against"} and told.exists():
+            wanted = json.loads(told.read_text())
+            if len(wanted["compared"]) == 1 + (said.get("--compatibility") == "full"):
+                yield {**DEFAULTS, **said, "FILE": file}, wanted
+
+
+def change_as_json(change: protolink.Change, against: str) -> dict[str, Any]:
+    """A change as the object of a row has it, against the older version that has a name."""
+    level, direction, fault = change
+    related = [place._asdict() for place in fault.related]
+    head = {"level": level, "direction": direction, "against": against}
+    return {**head, **fault._asdict(), "related": related}
 
 
 def tour() -> protolink.Pool:
@@ -571,7 +607,8 @@ class Pools(unittest.TestCase):
         older = pool_of("field id 1 optional int64")
         new = pool_of("field key 1 optional int32")
         (change,) = new.changes(older)
-        self.assertEqual((change.level, change.fault.code), ("wire", "field-kind"))
+        self.assertEqual((change.level, change.direction), ("wire", "backward"))
+        self.assertEqual(change.fault.code, "field-kind")
         self.assertEqual(str(change), "a.proto: p.M.key: 'p.M.key' (1): int64 became int32")
         self.assertEqual(change.fault.related[0].path, [4, 0, 2, 0])
         at_json = new.changes(older, level="json")
@@ -584,6 +621,38 @@ class Pools(unittest.TestCase):
         self.assertEqual((limited, limited.more), ([change], 1))
         with self.assertRaises(ValueError):
             new.changes(older, "bytes")
+        with self.assertRaises(ValueError):
+            new.changes(older, "wire", "sideways")
+
+    def test_a_field_that_is_added_changes_nothing_in_either_direction(self) -> None:
+        older, new = (row_pool(f"field-added.{side}.pb") for side in ("old", "new"))
+        for compatibility in protolink.COMPATIBILITIES:
+            changes = new.changes(older, compatibility=compatibility)
+            self.assertEqual((changes, changes.more), ([], 0), compatibility)
+        (change,) = older.changes(new)
+        self.assertEqual(change.fault.code, "number-free")
+
+    def test_changes_of_both_directions_are_counted_together(self) -> None:
+        older, new = (row_pool(f"kind-in-full.{side}.pb") for side in ("old", "new"))
+        directions = [change.direction for change in new.changes(older, compatibility="full")]
+        self.assertEqual(directions, ["backward", "forward"])
+        new.limit_faults(0)
+        limited = new.changes(older, compatibility="full")
+        self.assertEqual((limited, limited.more), ([], 2))
+        self.assertEqual(new.changes(older, compatibility="forward").more, 1)
+
+    def test_changes_are_those_of_the_rows(self) -> None:
+        count = 0
+        for asked, wanted in rows_of_changes():
+            older, new = row_pool(asked["--against"]), row_pool(asked["FILE"])
+            new.limit_faults(int(asked["--max-faults"]))
+            changes = new.changes(older, asked["--level"], asked["--compatibility"])
+            with self.subTest(asked["FILE"]):
+                found = [change_as_json(change, asked["--against"]) for change in changes]
+                self.assertEqual(found, wanted["changes"])
+                self.assertEqual(changes.more, sum(it["more"] for it in wanted["compared"]))
+            count += 1
+        self.assertGreater(count, 100)
 
     def test_a_path_is_read(self) -> None:
         with tempfile.TemporaryDirectory() as room:

@@ -17,7 +17,7 @@ file, else where the system finds it. Without it the import raises an ImportErro
 a pool: look-ups take no lock, and wait only for calls that change it.
 """
 
-from ._library import KINDS, LABELS, LEVELS, SONAME, TYPES, version
+from ._library import COMPATIBILITIES, KINDS, LABELS, LEVELS, SONAME, TYPES, version
 from .descriptors import (
     Descriptor,
     EnumDescriptor,
@@ -34,6 +34,7 @@ from .faults import Change, Changes, Error, Fault, Place, Refused, TooMany, Unre
 from .pool import Added, Counts, Definition, Pool
 
 __all__ = [
+    "COMPATIBILITIES",
     "KINDS",
     "LABELS",
     "LEVELS",

@@ -190,7 +190,7 @@ class Core:
         """The linked files."""
         return self.written(lib.pool_linked, read=self.read_long)
 
-    def changes(self, older: Core, level: int) -> bytes:
+    def changes(self, older: Core, level: int, compatibility: int) -> bytes:
         """What the pool changes of an older one, as an object of JSON."""
 
         def read(call: Callable[..., int], *told: object) -> int:
@@ -199,7 +199,8 @@ class Core:
 
             return older.read_long(with_older, *told)
 
-        return self.written(lib.pool_changes, level, read=read, room=FIRST_CHANGES)
+        asked = (level, compatibility)
+        return self.written(lib.pool_changes, *asked, read=read, room=FIRST_CHANGES)
 
     def written(
         self,

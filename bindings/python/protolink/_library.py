@@ -42,6 +42,10 @@ LABELS = ("optional", "required", "repeated")
 LEVELS = ("wire", "json", "source")
 """At which level two pools are compared, by the library's numbers."""
 
+COMPATIBILITIES = ("backward", "forward", "full")
+"""Which of two pools is to read what the other writes, by the library's numbers: the new one what
+the older one writes, the older one what the new one writes, or each what the other writes."""
+
 NONE = 2**32 - 1
 """Where an index may be missing: none."""
 
@@ -225,7 +229,7 @@ _CALLS = {
     "protolink_pool_find_path": (_STATUS, (_POOL, *_BYTES, *_PATH)),
     "protolink_pool_counts": (None, (_POOL, ctypes.POINTER(RawCounts))),
     "protolink_pool_extension": (_STATUS, (_POOL, _INDEX, _INDEX, _NUMBER)),
-    "protolink_pool_changes": (_STATUS, (_POOL, _POOL, _INDEX, *_BUFFER)),
+    "protolink_pool_changes": (_STATUS, (_POOL, _POOL, _INDEX, _INDEX, *_BUFFER)),
     "protolink_pool_clone": (_STATUS, (_POOL, _POOL)),
     "protolink_pool_clear": (None, (_POOL,)),
     "protolink_file": (_STATUS, (_POOL, _INDEX, ctypes.POINTER(FileInfo))),

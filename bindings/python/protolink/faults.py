@@ -53,10 +53,11 @@ class Fault(NamedTuple):
 
 
 class Change(NamedTuple):
-    """What a pool changes of an older one: its own level, one of `LEVELS`, and its kind, text and
-    places, of which the second is that in the older pool."""
+    """What a pool changes of an older one: its own level, one of `LEVELS`; its direction, "backward"
+    or "forward"; and its kind, text and places, of which the second is that in the older pool."""
 
     level: str
+    direction: str
     fault: Fault
 
     def __str__(self) -> str:
@@ -64,8 +65,8 @@ class Change(NamedTuple):
 
 
 class Changes(list[Change]):
-    """Changes in order, a hundred of them or as many as `Pool.limit_faults` has set; `more` is how
-    many more there are."""
+    """Changes in order, backward first: of each direction a hundred of them, or as many as
+    `Pool.limit_faults` has set. `more` is how many more there are, in all directions together."""
 
     def __init__(self, changes: Iterable[Change] = (), more: int = 0) -> None:
         super().__init__(changes)
@@ -97,5 +98,7 @@ def fault_of(told: dict[str, Any]) -> Fault:
 
 def changes_of(told: dict[str, Any]) -> Changes:
     """The changes of a report of JSON, in which one pool was compared with one other."""
-    changes = (Change(change["level"], fault_of(change)) for change in told["changes"])
-    return Changes(changes, told["compared"][0]["more"])
+    changes = (
+        Change(change["level"], change["direction"], fault_of(change)) for change in told["changes"]
+    )
+    return Changes(changes, sum(compared["more"] for compared in told["compared"]))

@@ -11,7 +11,7 @@ from pathlib import Path
 from typing import Any, NamedTuple, Optional, Protocol, TypeVar, Union, cast
 
 from ._core import Core, name_bytes, new_core
-from ._library import KINDS, LEVELS, NONE, Item, lib
+from ._library import COMPATIBILITIES, KINDS, LEVELS, NONE, Item, lib
 from ._names import Found
 from ._records import name_of
 from .descriptors import (
@@ -202,13 +202,19 @@ class Pool:
         text = self.report_json()
         return [fault_of(fault) for fault in json.loads(text)["faults"]] if text else []
 
-    def changes(self, older: Pool, level: str = "wire") -> Changes:
-        """What the pool changes of an older one: where a reader of its files reads otherwise what a
-        writer of the older ones writes, or not at all, and more at the higher levels of `LEVELS`. To
-        ask what an older reader reads of what a new writer writes, the two change places."""
+    def changes(
+        self, older: Pool, level: str = "wire", compatibility: str = "backward"
+    ) -> Changes:
+        """What the pool changes of an older one. Backward it is where a reader of its files reads
+        otherwise, or not at all, what a writer of the older ones writes; forward, where a reader of
+        the older ones does so with what a writer of its files writes; full is both, one of
+        `COMPATIBILITIES`. The higher levels of `LEVELS` have more."""
         if level not in LEVELS:
             raise ValueError(f"{level!r} is none of the levels")
-        return changes_of(json.loads(self._core.changes(older._core, LEVELS.index(level))))
+        if compatibility not in COMPATIBILITIES:
+            raise ValueError(f"{compatibility!r} is none of the compatibilities")
+        asked = (LEVELS.index(level), COMPATIBILITIES.index(compatibility))
+        return changes_of(json.loads(self._core.changes(older._core, *asked)))
 
     def clone(self) -> Pool:
         """A pool with equal contents, which shares nothing with this one."""

@@ -37,18 +37,60 @@ impl Level {
     }
 }
 
+/// Which of two pools is to read what the other writes.
+#[derive(Debug, Clone, Copy, PartialEq, Eq, Hash)]
+#[non_exhaustive]
+pub enum Compatibility {
+    /// The new one what the older one writes.
+    Backward,
+    /// The older one what the new one writes.
+    Forward,
+    /// Each what the other writes: both directions, backward first.
+    Full,
+}
+
+impl Compatibility {
+    pub(crate) fn number(self) -> u32 {
+        match self {
+            Compatibility::Backward => ffi::COMPATIBILITY_BACKWARD,
+            Compatibility::Forward => ffi::COMPATIBILITY_FORWARD,
+            Compatibility::Full => ffi::COMPATIBILITY_FULL,
+        }
+    }
+}
+
+/// In which direction a change was found.
+#[derive(Debug, Clone, Copy, PartialEq, Eq, Hash)]
+pub enum Direction {
+    /// The older pool writes, and the new one reads.
+    Backward,
+    /// The new pool writes, and the older one reads.
+    Forward,
+}
+
+impl Direction {
+    fn named(word: &str) -> Direction {
+        match word {
+            "backward" => Direction::Backward,
+            _ => Direction::Forward,
+        }
+    }
+}
+
 /// What a pool changes of an older one, and where.
 #[derive(Debug, Clone, PartialEq, Eq)]
 #[non_exhaustive]
 pub struct Change {
     /// Its own level, which may be below the one that was asked for.
     pub level: Level,
+    /// Its direction, which is one of those of the compatibility that was asked for.
+    pub direction: Direction,
     /// Its kind, text and places: `code` is as `field-kind`, the place that in the new pool, and
     /// `related` has the place in the older one.
     pub fault: Fault,
 }
 
-/// Changes in order: the first hundred, or as many as
+/// Changes in order, backward first: of each direction the first hundred, or as many as
 /// [`limit_faults`](crate::DescriptorPool::limit_faults) has set, and how many more there are.
 #[derive(Debug, Clone, PartialEq, Eq, Default)]
 pub struct Changes {
@@ -58,9 +100,10 @@ pub struct Changes {
 
 impl Change {
     fn new(value: &Value) -> Change {
-        let level = value.member("level").and_then(Value::as_text);
+        let word = |name| value.member(name).and_then(Value::as_text);
         Change {
-            level: Level::named(level.unwrap_or_default()),
+            level: Level::named(word("level").unwrap_or_default()),
+            direction: Direction::named(word("direction").unwrap_or_default()),
             fault: Fault::new(value),
         }
     }
@@ -73,18 +116,15 @@ impl Changes {
         let told = object.member("changes").map_or(&[][..], Value::items);
         let compared = object.member("compared").map_or(&[][..], Value::items);
         let more = compared
-            .first()
-            .and_then(|compared| compared.member("more"));
+            .iter()
+            .filter_map(|compared| compared.member("more")?.as_number());
         Changes {
             told: told.iter().map(Change::new).collect(),
-            more: more
-                .and_then(Value::as_number)
-                .and_then(|more| u64::try_from(more).ok())
-                .unwrap_or_default(),
+            more: more.filter_map(|more| u64::try_from(more).ok()).sum(),
         }
     }
 
-    /// How many more changes there are than these.
+    /// How many more changes there are than these, in all directions together.
     #[must_use]
     pub fn more(&self) -> u64 {
         self.more

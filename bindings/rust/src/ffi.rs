@@ -191,6 +191,10 @@ pub const LEVEL_WIRE: u32 = 0;
 pub const LEVEL_JSON: u32 = 1;
 pub const LEVEL_SOURCE: u32 = 2;
 
+pub const COMPATIBILITY_BACKWARD: u32 = 0;
+pub const COMPATIBILITY_FORWARD: u32 = 1;
+pub const COMPATIBILITY_FULL: u32 = 2;
+
 pub const MESSAGE: u32 = 1;
 pub const FIELD: u32 = 2;
 pub const ONEOF: u32 = 3;
@@ -265,6 +269,7 @@ extern "C" {
         pool: *mut Pool,
         older: *mut Pool,
         level: u32,
+        compatibility: u32,
         buffer: *mut u8,
         room: usize,
         length: *mut usize,

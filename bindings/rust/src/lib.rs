@@ -47,7 +47,7 @@ mod raw;
 mod records;
 mod shared;
 
-pub use changes::{Change, Changes, Level};
+pub use changes::{Change, Changes, Compatibility, Direction, Level};
 pub use descriptors::{
     EnumDescriptor, EnumValueDescriptor, ExtensionDescriptor, FieldDescriptor, FileDescriptor,
     MessageDescriptor, MethodDescriptor, OneofDescriptor, ServiceDescriptor,

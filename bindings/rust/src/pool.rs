@@ -1,6 +1,6 @@
 //! The pool.
 
-use crate::changes::{Changes, Level};
+use crate::changes::{Changes, Compatibility, Level};
 use crate::descriptors::{
     EnumDescriptor, EnumValueDescriptor, ExtensionDescriptor, FieldDescriptor, FileDescriptor,
     MessageDescriptor, MethodDescriptor, OneofDescriptor, ServiceDescriptor,
@@ -218,29 +218,38 @@ impl DescriptorPool {
         Ok(())
     }
 
-    /// What the pool changes of an older one: where a reader of its files reads otherwise what a
-    /// writer of the older ones writes, or not at all, and more at the higher levels. To ask what
-    /// an older reader reads of what a new writer writes, the two change places. At most as many
-    /// changes are told as [`limit_faults`](Self::limit_faults) has set.
+    /// What the pool changes of an older one. Backward it is where a reader of its files reads
+    /// otherwise, or not at all, what a writer of the older ones writes; forward, where a reader of
+    /// the older ones does so with what a writer of its files writes. The higher levels have more.
+    /// Of each direction the answer has at most as many changes as
+    /// [`limit_faults`](Self::limit_faults) has set.
     ///
     /// ```
-    /// # use protolink::{DescriptorPool, Level};
+    /// # use protolink::{Compatibility, DescriptorPool, Level};
     /// let (mut older, mut new) = (DescriptorPool::new(), DescriptorPool::new());
     /// # let field = |kind| format!("field id 1 optional {kind} ~ ~\nend\n");
     /// # let script = |kind| format!("file a.proto\nmessage M\n{}end\n", field(kind));
     /// # older.add_script(script("int64"))?;
     /// # new.add_script(script("int32"))?;
-    /// for change in &new.changes(&older, Level::Wire)? {
+    /// for change in &new.changes(&older, Level::Wire, Compatibility::Backward)? {
     ///     println!("{change}");
     /// }
-    /// # assert_eq!(new.changes(&older, Level::Wire)?[0].code, "field-kind");
+    /// # let changes = new.changes(&older, Level::Wire, Compatibility::Backward)?;
+    /// # assert_eq!(changes[0].code, "field-kind");
     /// # Ok::<(), Box<dyn std::error::Error>>(())
     /// ```
     ///
     /// # Errors
     /// Where memory was refused.
-    pub fn changes(&self, older: &DescriptorPool, level: Level) -> Result<Changes, OutOfMemory> {
-        let told = self.shared.raw.changes(&older.shared.raw, level.number())?;
+    pub fn changes(
+        &self,
+        older: &DescriptorPool,
+        level: Level,
+        compatibility: Compatibility,
+    ) -> Result<Changes, OutOfMemory> {
+        let (level, compatibility) = (level.number(), compatibility.number());
+        let older = &older.shared.raw;
+        let told = self.shared.raw.changes(older, level, compatibility)?;
         Ok(Changes::read(&told.unwrap_or_default()))
     }
 

@@ -169,11 +169,18 @@ impl RawPool {
             .unwrap_or_default()
     }
 
-    /// What a pool changes of an older one, as an object of JSON, or none where no level has the
-    /// number.
-    pub fn changes(&self, older: &RawPool, level: u32) -> Result<Option<Vec<u8>>, OutOfMemory> {
+    /// What a pool changes of an older one, as an object of JSON, or none where no level or no
+    /// compatibility has the number.
+    pub fn changes(
+        &self,
+        older: &RawPool,
+        level: u32,
+        compatibility: u32,
+    ) -> Result<Option<Vec<u8>>, OutOfMemory> {
         self.written(FIRST_CHANGES, |p, at, room, len| {
-            older.with(|o| unsafe { ffi::protolink_pool_changes(p, o, level, at, room, len) })
+            older.with(|o| unsafe {
+                ffi::protolink_pool_changes(p, o, level, compatibility, at, room, len)
+            })
         })
     }
 

@@ -1,7 +1,8 @@
 //! A pool from its files to what it has, and why files are not linked.
 
 use protolink::{
-    Cardinality, Definition, DescriptorError, DescriptorPool, Kind, Level, Syntax, Value,
+    Cardinality, Changes, Compatibility, Definition, DescriptorError, DescriptorPool, Direction,
+    Kind, Level, Syntax, Value,
 };
 use std::fmt::Debug;
 use std::sync::Barrier;
@@ -469,6 +470,11 @@ fn a_file_twice_counts_once() {
     assert_eq!(faults[0].file.as_deref(), Some("a.proto"));
 }
 
+/// What a pool changes of an older one backward.
+fn backward(new: &DescriptorPool, older: &DescriptorPool, level: Level) -> Changes {
+    new.changes(older, level, Compatibility::Backward).unwrap()
+}
+
 #[test]
 fn what_a_pool_changes_of_an_older_one_is_told() {
     let (older, mut new) = (shop(), DescriptorPool::new());
@@ -479,12 +485,12 @@ fn what_a_pool_changes_of_an_older_one_is_told() {
     );
     let script = script.replacen("field note 4", "field remark 4", 1);
     new.add_script(script).unwrap();
-    let at_wire = new.changes(&older, Level::Wire).unwrap();
+    let at_wire = backward(&new, &older, Level::Wire);
     assert_eq!((at_wire.len(), at_wire.more()), (1, 0));
     let change = &at_wire[0];
     assert_eq!(
-        (change.level, &change.code[..]),
-        (Level::Wire, "field-kind")
+        (change.level, change.direction, &change.code[..]),
+        (Level::Wire, Direction::Backward, "field-kind")
     );
     assert_eq!(
         change.message,
@@ -494,22 +500,62 @@ fn what_a_pool_changes_of_an_older_one_is_told() {
     assert_eq!(change.element.as_deref(), Some("shop.v1.Order.raw"));
     assert_eq!(change.related[0].path.as_deref(), Some(&[4, 0, 2, 4][..]));
     assert!(!change.note.is_empty());
-    let at_json = new.changes(&older, Level::Json).unwrap();
+    let at_json = backward(&new, &older, Level::Json);
     assert_eq!((at_json.len(), &at_json[0]), (2, change));
     assert_eq!(
         (at_json[1].level, &at_json[1].code[..]),
         (Level::Json, "field-json-name")
     );
-    assert!(new.changes(&older, Level::Source).unwrap().len() >= 2);
+    assert!(backward(&new, &older, Level::Source).len() >= 2);
     new.limit_faults(1).unwrap();
-    let limited = new.changes(&older, Level::Json).unwrap();
+    let limited = backward(&new, &older, Level::Json);
     assert_eq!((limited.len(), limited.more()), (1, 1));
-    assert!(new.changes(&new, Level::Source).unwrap().is_empty());
-    assert!(shop().changes(&older, Level::Source).unwrap().is_empty());
-    let nothing = DescriptorPool::new().changes(&older, Level::Wire).unwrap();
+    assert!(backward(&new, &new, Level::Source).is_empty());
+    assert!(backward(&shop(), &older, Level::Source).is_empty());
+    let nothing = backward(&DescriptorPool::new(), &older, Level::Wire);
     assert!(nothing
         .iter()
         .any(|change| change.code == "service-removed"));
+}
+
+/// A pool of one message with some fields.
+fn with_fields(fields: &str) -> DescriptorPool {
+    let mut pool = DescriptorPool::new();
+    let script = format!("file m.proto\npackage m\nmessage M\n{fields}end\nend\n");
+    pool.add_script(script).unwrap();
+    pool
+}
+
+#[test]
+fn a_field_that_is_added_changes_nothing_in_either_direction() {
+    let older = with_fields("field a 1 optional int32 ~ ~\n");
+    let new = with_fields("field a 1 optional int32 ~ ~\nfield b 2 optional int32 ~ ~\n");
+    for compatibility in [
+        Compatibility::Backward,
+        Compatibility::Forward,
+        Compatibility::Full,
+    ] {
+        let changes = new.changes(&older, Level::Wire, compatibility).unwrap();
+        assert_eq!((changes.len(), changes.more()), (0, 0), "{compatibility:?}");
+    }
+    assert_eq!(backward(&older, &new, Level::Wire)[0].code, "number-free");
+}
+
+#[test]
+fn changes_of_both_directions_are_counted_together() {
+    let older = with_fields("field a 1 optional int32 ~ ~\n");
+    let mut new = with_fields("field a 1 optional uint32 ~ ~\n");
+    let changes = new
+        .changes(&older, Level::Wire, Compatibility::Full)
+        .unwrap();
+    let directions: Vec<Direction> = changes.iter().map(|change| change.direction).collect();
+    assert_eq!(directions, [Direction::Backward, Direction::Forward]);
+    assert_eq!(changes[1].message, "'m.M.a' (1): int32 became uint32");
+    new.limit_faults(0).unwrap();
+    let limited = new
+        .changes(&older, Level::Wire, Compatibility::Full)
+        .unwrap();
+    assert_eq!((limited.len(), limited.more()), (0, 2));
 }
 
 #[test]

@@ -1,16 +1,16 @@
 -- What the check of some inputs answers against older versions: the verdict, and behind it what an
 -- accepted batch changes of each.
-use Rattle.std.specs.Prelude.{ℕ, Bool, not, ◌==◌, List, [], ◌∷◌, Result, Ok, Err, map, unwrap_or}
+use Rattle.std.specs.Prelude.{ℕ, Bool, not, ◌==◌, List, [], ◌∷◌, Result, Ok, Err, unwrap_or}
 use Rattle.std.specs.Prelude.{if◌then◌else◌}
 use Rattle.std.specs.List.{flat_map, list_any}
 use Rattle.std.specs.declared.option.Option.{Option}
 use Rattle.std.specs.declared.option.Option.TheVariants.{None, Some}
 use Rattle.pool_types.specs.Contents.{Contents}
 use Rattle.joined_files.specs.declared.joining.JoinedFiles.{JoinedFiles}
-use Rattle.pool_changes.specs.Comparing.{told_changes}
+use Rattle.pool_changes.specs.Comparing.{told_for}
 use Rattle.pool_changes.specs.declared.told.ToldChanges.{ToldChanges}
-use Rattle.pool_changes.specs.declared.direction.Direction.{Direction}
-use Rattle.pool_changes.specs.declared.direction.Direction.TheVariants as direction
+use Rattle.pool_changes.specs.declared.direction.Compatibility.{Compatibility}
+use Rattle.pool_changes.specs.declared.direction.Compatibility.TheVariants.{Backward}
 use Rattle.pool_changes.specs.declared.kinds.Level.{Level}
 use Rattle.pool_changes.specs.declared.kinds.Level.TheVariants.{Wire}
 use Rattle.descriptor_check.specs.Answers.{answer, judged_answer, passed_over, unread_answer}
@@ -20,9 +20,6 @@ use Rattle.descriptor_check.specs.ChangeFormats.{report_with}
 use Rattle.descriptor_check.specs.Olders.{olders_of}
 use Rattle.descriptor_check.specs.Strict.{judgement_of}
 use Rattle.descriptor_check.specs.declared.answer.Answer.{Answer}
-use Rattle.descriptor_check.specs.declared.answer.Compatibility.{Compatibility}
-use Rattle.descriptor_check.specs.declared.answer.Compatibility.TheVariants.{Backward, Forward}
-use Rattle.descriptor_check.specs.declared.answer.Compatibility.TheVariants.{Full}
 use Rattle.descriptor_check.specs.declared.answer.LinkedSet.{LinkedSet}
 use Rattle.descriptor_check.specs.declared.answer.Status.{Status}
 use Rattle.descriptor_check.specs.declared.answer.Status.TheVariants as status
@@ -35,25 +32,18 @@ use Rattle.descriptor_check.specs.declared.verdicts.Verdict.{Verdict}
 use Rattle.descriptor_check.specs.declared.verdicts.Verdict.TheVariants.{Accepted, Refused, TooMany}
 use Rattle.descriptor_check.specs.declared.verdicts.Verdict.TheVariants.{Unequal}
 
--- the directions that are wanted, in order
-abbrev pub directions : Option Compatibility → List Direction
-directions None = direction.Backward ∷ []
-directions (Some Backward) = direction.Backward ∷ []
-directions (Some Forward) = direction.Forward ∷ []
-directions (Some Full) = direction.Backward ∷ direction.Forward ∷ []
+-- the compatibility that is wanted: backward, where none is said
+abbrev pub compatibility_wanted : Wanted → Compatibility
+compatibility_wanted w = unwrap_or w.compatibility Backward
 
 -- the level that is wanted: wire, where none is said
 abbrev pub level_wanted : Wanted → Level
 level_wanted w = unwrap_or w.level Wire
 
--- what a pool changes of an older version in a direction
-abbrev pub told_against_older : Wanted → Contents → Older → Direction → ToldChanges
-told_against_older w p o d =
-    told_changes (record { direction = d; old = o.pool; new = p }) (level_wanted w) o.name w.most
-
 -- what a pool changes of an older version, in each direction that is wanted
 abbrev pub compared_with : Wanted → Contents → Older → List ToldChanges
-compared_with w p o = map (told_against_older w p o) (directions w.compatibility)
+compared_with w p o =
+    told_for (compatibility_wanted w) o.pool p (level_wanted w) o.name w.most
 
 -- what the pool of an accepted batch changes of older versions, if the answer to it is a verdict
 abbrev pub compared_if : Wanted → List Older → Contents → Status → List ToldChanges

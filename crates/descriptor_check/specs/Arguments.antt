@@ -8,9 +8,6 @@ use Rattle.std.specs.declared.option.Option.{Option}
 use Rattle.std.specs.declared.option.Option.TheVariants.{None, Some}
 use Rattle.plain_data.specs.WholeNumbers.{whole_signed}
 use Rattle.pool_faults.specs.Labels.{non_negative}
-use Rattle.descriptor_check.specs.declared.answer.Compatibility.{Compatibility}
-use Rattle.descriptor_check.specs.declared.answer.Compatibility.TheVariants.{Backward, Forward}
-use Rattle.descriptor_check.specs.declared.answer.Compatibility.TheVariants.{Full}
 use Rattle.descriptor_check.specs.declared.answer.Wanted.{Wanted}
 use Rattle.descriptor_check.specs.declared.arguments.Job.{Job}
 use Rattle.descriptor_check.specs.declared.arguments.Reading.{Reading}
@@ -22,6 +19,9 @@ use Rattle.descriptor_check.specs.declared.arguments.Valued.{Valued}
 use Rattle.descriptor_check.specs.declared.arguments.Valued.TheVariants as valued
 use Rattle.descriptor_check.specs.declared.arguments.Valued.TheVariants.{MaxFaults, Describe}
 use Rattle.descriptor_check.specs.declared.arguments.Valued.TheVariants.{Linked}
+use Rattle.pool_changes.specs.declared.direction.Compatibility.{Compatibility}
+use Rattle.pool_changes.specs.declared.direction.Compatibility.TheVariants.{Backward, Forward}
+use Rattle.pool_changes.specs.declared.direction.Compatibility.TheVariants.{Full}
 use Rattle.pool_changes.specs.declared.kinds.Level.{Level}
 use Rattle.pool_changes.specs.declared.kinds.Level.TheVariants as level
 use Rattle.verdict_texts.specs.Formats.{is_for_people}

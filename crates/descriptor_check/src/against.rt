@@ -1,12 +1,11 @@
 //! The check of inputs against older versions.
 
-ghost use Rattle.std.specs.Prelude.{◌≡◌, ◌++◌, IfOk, OnOk, map};
+ghost use Rattle.std.specs.Prelude.{◌≡◌, ◌++◌, IfOk, OnOk};
 ghost use Rattle.std.specs.List.{flat_map};
-ghost use Rattle.pool_changes.specs.Comparing.{told_changes};
 ghost use Rattle.descriptor_check.specs.Against as spec;
 ghost use Rattle.descriptor_check.specs.Batches.{batch_of};
 
-use crate::answer::{Answer, Compatibility, LinkedSet, Status, Wanted};
+use crate::answer::{Answer, LinkedSet, Status, Wanted};
 use crate::batches::{BatchError, read_batch};
 use crate::change_formats::report_with;
 use crate::checking::{check, passed_over, tell_judgement, tell_unread, with_complaints};
@@ -17,7 +16,7 @@ use crate::verdicts::Verdict;
 use descriptor_pool::DescriptorPool;
 use joined_files::JoinedFiles;
 use plain_data::Text;
-use pool_changes::{Comparison, Direction, Level, ToldChanges, tell_changes};
+use pool_changes::{Comparison, Compatibility, Level, ToldChanges, tell_changes};
 use std::alloc::{AllocError, Global};
 
 /// What is wanted of a check, and the older versions that it is against.
@@ -104,15 +103,11 @@ fn tell_against(
     with_told(alloc, against.wanted, told.as_slice(), answer)
 }
 
-/// The directions that are wanted, in order.
-fn directions(compatibility: Option<Compatibility>) -> &'static [Direction]
-    ensures { result.now ≡ spec.directions compatibility }
+/// The compatibility that is wanted: backward, where none is said.
+fn compatibility_wanted(wanted: &Wanted) -> Compatibility
+    ensures { result ≡ spec.compatibility_wanted wanted.now }
 {
-    match compatibility {
-        None | Some(Compatibility::Backward) => &[Direction::Backward],
-        Some(Compatibility::Forward) => &[Direction::Forward],
-        Some(Compatibility::Full) => &[Direction::Backward, Direction::Forward],
-    }
+    wanted.compatibility.unwrap_or(Compatibility::Backward)
 }
 
 /// The level that is wanted: wire, where none is said.
@@ -133,16 +128,14 @@ fn tell_older(
         ++ spec.compared_with wanted.now pool.now older.now) }
 {
     let alloc = *told.allocator();
-    for direction in directions(wanted.compatibility) {
-        let comparison = Comparison {
-            direction: *direction,
-            level: level_wanted(wanted),
-            old: &older.pool,
-            new: pool,
-        };
-        let changes = tell_changes(alloc, comparison, older.name.as_str(), wanted.most)?;
-        told.push(changes)?;
-    }
+    let comparison = Comparison {
+        compatibility: compatibility_wanted(wanted),
+        level: level_wanted(wanted),
+        old: &older.pool,
+        new: pool,
+    };
+    let mut changes = tell_changes(alloc, comparison, older.name.as_str(), wanted.most)?;
+    told.append(&mut changes)?;
     Ok(())
 }
 

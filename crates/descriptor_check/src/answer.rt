@@ -4,7 +4,7 @@ ghost use Rattle.std.specs.Prelude.{◌≡◌};
 ghost use Rattle.descriptor_check.specs.Statuses as spec;
 
 use plain_data::{Items, Text};
-use pool_changes::Level;
+use pool_changes::{Compatibility, Level};
 use verdict_texts::Format;
 
 /// How the verdict is told, and what is told of an accepted batch besides.
@@ -28,17 +28,6 @@ pub struct Wanted {
     pub compatibility: Option<Compatibility>,
     /// The level at which versions are compared, if that is said: wire where it isn't.
     pub level: Option<Level>,
-}
-
-/// Which version is to read what the other writes.
-#[derive(Clone, Copy, PartialEq, Debug)]
-pub enum Compatibility {
-    /// The new one what an older one writes.
-    Backward,
-    /// An older one what the new one writes.
-    Forward,
-    /// Each what the other writes.
-    Full,
 }
 
 /// How a run ends.

@@ -4,9 +4,9 @@ ghost use Rattle.std.specs.Prelude.{◌≡◌, ℕ, IfOk, IfSome};
 ghost use Rattle.std.specs.Option.{option_copied, option_map};
 ghost use Rattle.descriptor_check.specs.Arguments as spec;
 
-use crate::answer::{Compatibility, Wanted};
+use crate::answer::Wanted;
 use plain_data::{Items, Text, parse_int32};
-use pool_changes::Level;
+use pool_changes::{Compatibility, Level};
 use std::alloc::{AllocError, Global};
 use verdict_texts::Format;
 

@@ -19,7 +19,7 @@ mod unread;
 mod verdicts;
 
 pub use against::check_against;
-pub use answer::{Answer, Compatibility, LinkedSet, Status, Wanted};
+pub use answer::{Answer, LinkedSet, Status, Wanted};
 pub use arguments::{HELP, Job, Request, VERSION, read_arguments};
 pub use batches::{BatchError, Flaw, NotASet, read_batch};
 pub use checking::check;

@@ -8,12 +8,12 @@ use Rattle.protoc_rules.specs.declared.faults.StrictFault.{StrictFault}
 use Rattle.verdict_texts.specs.declared.telling.ToldFault.{ToldFault}
 use Rattle.verdict_texts.specs.Refused.{too_many_text}
 use Rattle.schema_changes.proofs.Keeping.{at-contained}
-use Rattle.pool_changes.specs.Comparing.{told_at}
+use Rattle.pool_changes.specs.Comparing.{directions, told_at, told_changes}
 use Rattle.pool_changes.specs.Laws.{UntoldIsKept, UntoldIsRead, UntoldMapsAreRead}
 use Rattle.pool_changes.specs.Sides.{Versions}
 use Rattle.pool_changes.specs.declared.direction.Direction.{Direction}
 use Rattle.pool_changes.specs.declared.told.ToldChanges.{ToldChanges}
-use Rattle.descriptor_check.specs.Against.{answer_against, batch_against, compared_for, compared_with, directions, level_wanted, olders_answer, some_change, told_against_older, with_told}
+use Rattle.descriptor_check.specs.Against.{answer_against, batch_against, compared_for, compared_with, compatibility_wanted, level_wanted, olders_answer, some_change, with_told}
 use Rattle.descriptor_check.specs.Answers.{accepted_unless, answer_for, linked_answer, passed_over, unread_answer, verdict_answer}
 use Rattle.descriptor_check.specs.Batches.{and_then, batch_of}
 use Rattle.descriptor_check.specs.Described.{unknown_names}
@@ -68,12 +68,16 @@ no-element (x ∷ xs) none = absurd (omega (arith, none))
 
 -- nothing is told of it, in each direction that is wanted
 abbrev Untold : Wanted → Contents → Older → Type 0
-Untold w q o = AllByRecursion (λ d. told_at (record { direction = d; old = o.pool; new = q }) (level_wanted w) ≡ []) (directions w.compatibility)
+Untold w q o = AllByRecursion (λ d. told_at (record { direction = d; old = o.pool; new = q }) (level_wanted w) ≡ []) (directions (compatibility_wanted w))
+
+-- what is told of it in a direction
+abbrev told_in : Wanted → Contents → Older → Direction → ToldChanges
+told_in w q o d = told_changes (record { direction = d; old = o.pool; new = q }) (level_wanted w) o.name w.most
 
 abbrev changes_some : ToldChanges → Bool
 changes_some r = not (r.count == 0)
 
-counted-none : (w : Wanted) (q : Contents) (o : Older) (d : Direction) → changes_some (told_against_older w q o d) ≡ false → told_at (record { direction = d; old = o.pool; new = q }) (level_wanted w) ≡ []
+counted-none : (w : Wanted) (q : Contents) (o : Older) (d : Direction) → changes_some (told_in w q o d) ≡ false → told_at (record { direction = d; old = o.pool; new = q }) (level_wanted w) ≡ []
 counted-none w q o d none =
     let told : List ToldFault = told_at (record { direction = d; old = o.pool; new = q }) (level_wanted w) in
     no-element told (eqb-true (length told) 0 (by (length told == 0) none))
@@ -84,8 +88,8 @@ counted-none w q o d none =
 
 older-untold : (w : Wanted) (q : Contents) (o : Older) → list_any changes_some (compared_with w q o) ≡ false → Untold w q o
 older-untold w q o none =
-    each-as (λ d. changes_some (told_against_older w q o d) ≡ false) (λ d. told_at (record { direction = d; old = o.pool; new = q }) (level_wanted w) ≡ []) (λ d h. counted-none w q o d h)
-    (directions w.compatibility) (each-mapped-false changes_some (told_against_older w q o) (directions w.compatibility) none)
+    each-as (λ d. changes_some (told_in w q o d) ≡ false) (λ d. told_at (record { direction = d; old = o.pool; new = q }) (level_wanted w) ≡ []) (λ d h. counted-none w q o d h)
+    (directions (compatibility_wanted w)) (each-mapped-false changes_some (told_in w q o) (directions (compatibility_wanted w)) none)
 
 all-untold : (w : Wanted) (q : Contents) (os : List Older) → some_change (flat_map (compared_with w q) os) ≡ false → AllByRecursion (Untold w q) os
 all-untold w q os none =
@@ -217,7 +221,7 @@ one-accepted w inputs joined p q reads accepts other =
 
 -- nothing is told of the older version of an input
 input-untold : (w : Wanted) (olders inputs : List Input) (old new : Contents) → (answer_against w olders inputs).status ≡ status.Accepted → (i : Input) → Contains olders i → OlderAs w i old → AcceptedAs w inputs new
-    → (d : Direction) → Contains (directions w.compatibility) d → told_at (record { direction = d; old = old; new = new }) (level_wanted w) ≡ []
+    → (d : Direction) → Contains (directions (compatibility_wanted w)) d → told_at (record { direction = d; old = old; new = new }) (level_wanted w) ≡ []
 input-untold w [] inputs old new accepts i has older accepted d asked = absurd (omega (arith, has.1))
 input-untold w (j ∷ js) inputs old new accepts i has older accepted d asked =
     let both = agrees w j js inputs accepts in
@@ -227,7 +231,7 @@ input-untold w (j ∷ js) inputs old new accepts i has older accepted d asked =
     let same : own.0 ≡ own_older = one-older own.0 own_older (older_of w i) own.1 older in
     let one : (own.0).pool ≡ old = ap (λ (o : Older). o.pool) same in
     let pool : (both.2).pool ≡ new = one-accepted w inputs (both.2).joined (both.2).pool new (both.2).read (both.2).accepted accepted in
-    let here = at-contained (λ e. told_at (record { direction = e; old = (own.0).pool; new = (both.2).pool }) (level_wanted w) ≡ []) (directions w.compatibility) d own.2 asked in
+    let here = at-contained (λ e. told_at (record { direction = e; old = (own.0).pool; new = (both.2).pool }) (level_wanted w) ≡ []) (directions (compatibility_wanted w)) d own.2 asked in
     subst (λ p. told_at (record { direction = d; old = old; new = p }) (level_wanted w) ≡ []) pool
     (subst (λ p. told_at (record { direction = d; old = p; new = (both.2).pool }) (level_wanted w) ≡ []) one here)
 

@@ -6,11 +6,12 @@ use Rattle.pool_types.specs.declared.contents.message.MessageDescriptorInner.{Me
 use Rattle.schema_changes.specs.MapEntries.{is_map_entry}
 use Rattle.schema_changes.specs.Pairs.{are_matched}
 use Rattle.schema_changes.specs.Parts.{parts_of, one_name}
+use Rattle.pool_changes.specs.Comparing.{directions}
 use Rattle.pool_changes.specs.Laws.{MapsAlike, ReadsAlike}
 use Rattle.pool_changes.specs.Sides.{Versions, writer, reader}
 use Rattle.pool_changes.specs.declared.direction.Direction.{Direction}
 use Rattle.pool_changes.specs.declared.direction.Direction.TheVariants.{Backward}
-use Rattle.descriptor_check.specs.Against.{answer_against, directions}
+use Rattle.descriptor_check.specs.Against.{answer_against, compatibility_wanted}
 use Rattle.descriptor_check.specs.Olders.{older_of}
 use Rattle.descriptor_check.specs.declared.answer.Answer.{Answer}
 use Rattle.descriptor_check.specs.declared.answer.Status.TheVariants as status
@@ -43,7 +44,7 @@ abbrev pub AcceptedIsRead : Wanted → List Input → List Input → Answer → 
 AcceptedIsRead w olders inputs a old new =
     a ≡ answer_against w olders inputs → a.status ≡ status.Accepted
     → (i : Input) → Contains olders i → OlderAs w i old → AcceptedAs w inputs new
-    → (d : Direction) → Contains (directions w.compatibility) d
+    → (d : Direction) → Contains (directions (compatibility_wanted w)) d
     → ReadsIn (record { direction = d; old = old; new = new })
 
 -- law: it ends so only where the inputs are accepted, with a pool, and so is each older version

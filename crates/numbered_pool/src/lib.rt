@@ -20,6 +20,7 @@ mod sources;
 mod status;
 
 pub use answers::Answers;
+pub use changes::Asked;
 pub use known::Added;
 pub use numbers::{
     EnumItem, ExtensionItem, FieldItem, FileItem, Found, Item, MessageItem, MethodItem, NONE,

@@ -1,6 +1,6 @@
 -- What a new version changes of an older one in a direction, as it is told.
-use Rattle.std.specs.Prelude.{ℕ, Bool, true, false, codes, List, [], ◌++◌, length, take, Option}
-use Rattle.std.specs.Prelude.{Some, None}
+use Rattle.std.specs.Prelude.{ℕ, Bool, true, false, codes, List, [], ◌∷◌, ◌++◌, length, take, map}
+use Rattle.std.specs.Prelude.{Option, Some, None}
 use Rattle.std.specs.List.{flat_map}
 use Rattle.plain_data.specs.Lists.{only_if}
 use Rattle.pool_types.specs.Contents.{Contents}
@@ -18,7 +18,10 @@ use Rattle.pool_changes.specs.Services.{services_changes}
 use Rattle.pool_changes.specs.Sides.{Versions, Side, both_of, first_by, writer, reader, there}
 use Rattle.pool_changes.specs.Sides.{differing}
 use Rattle.pool_changes.specs.Telling.{told_change}
-use Rattle.pool_changes.specs.declared.direction.Direction.TheVariants.{Backward}
+use Rattle.pool_changes.specs.declared.direction.Compatibility.{Compatibility}
+use Rattle.pool_changes.specs.declared.direction.Compatibility.TheVariants as compatibility
+use Rattle.pool_changes.specs.declared.direction.Direction.{Direction}
+use Rattle.pool_changes.specs.declared.direction.Direction.TheVariants.{Backward, Forward}
 use Rattle.pool_changes.specs.declared.kinds.ElementChange.TheVariants as element
 use Rattle.pool_changes.specs.declared.kinds.Level.{Level}
 use Rattle.pool_changes.specs.declared.kinds.Level.TheVariants.{Wire, Json, Source}
@@ -109,3 +112,16 @@ told_changes v level name most = record {
   json_beyond = json_beyond level (length (at_json v));
   source_beyond = source_beyond level (length (at_source v));
 }
+
+-- the directions in which two versions are compared for a compatibility, in order
+abbrev pub directions : Compatibility → List Direction
+directions compatibility.Backward = Backward ∷ []
+directions compatibility.Forward = Forward ∷ []
+directions compatibility.Full = Backward ∷ Forward ∷ []
+
+-- what a new version changes of an older one that has a name, in each direction of a compatibility:
+-- so many of the changes of each direction at most
+abbrev pub told_for : Compatibility → Contents → Contents → Level → List ℕ → ℕ → List ToldChanges
+told_for c old new level name most =
+    map (λ d. told_changes (record { direction = d; old = old; new = new }) level name most)
+    (directions c)

@@ -1,21 +1,22 @@
-//! What a new pool changes of an older one in a direction, as it is told.
+//! What a new pool changes of an older one in each direction, as it is told.
 
 ghost use Rattle.std.specs.Prelude.{◌≡◌, ◌++◌, IfOk, take};
 ghost use Rattle.pool_changes.specs.Comparing as spec;
+ghost use Rattle.pool_changes.specs.Sides.{versions};
 ghost use Rattle.pool_changes.specs.declared.direction.Direction.TheVariants.{Backward};
 
 use crate::by_level::{ByLevel, followed_by};
 use crate::sides::Telling;
-use crate::{Direction, Level, ToldChanges};
+use crate::{Compatibility, Direction, Level, ToldChanges};
 use descriptor_pool::DescriptorPool;
 use plain_data::{Items, Text};
 use std::alloc::{AllocError, Global};
 use verdict_texts::ToldFault;
 
-/// An older pool and a new one that are compared in a direction, at a level.
+/// An older pool and a new one that are compared for a compatibility, at a level.
 #[derive(Clone, Copy)]
 pub struct Comparison<'a> {
-    pub direction: Direction,
+    pub compatibility: Compatibility,
     pub level: Level,
     pub old: &'a DescriptorPool,
     pub new: &'a DescriptorPool,
@@ -78,36 +79,23 @@ fn source_beyond(level: Level, count: usize) -> usize
     }
 }
 
-/// Tells what a new pool changes of an older one, by a name for that: so many of the changes at
-/// most, the first of them, how many there are, and how many more there are at the levels that
-/// contain the one that is asked for.
-///
-/// # Errors
-/// `AllocError` where memory was refused.
-pub fn tell_changes(
-    alloc: Global,
-    comparison: Comparison<'_>,
+/// Tells what a new version changes of an older one in a direction, by a name for that one: so many
+/// of the changes at most, the first of them, how many there are, and how many more there are at the
+/// levels that contain the one that is asked for.
+fn tell_direction(
+    telling: Telling<'_>,
+    level: Level,
     against: &str,
     most: usize,
 ) -> Result<ToldChanges, AllocError>
-    ensures { IfOk result (λ told. told ≡ spec.told_changes (record {
-      direction = comparison.entry.direction;
-      old = comparison.entry.old.now;
-      new = comparison.entry.new.now;
-    }) comparison.entry.level against.now most) }
+    ensures { IfOk result (λ told. told
+        ≡ spec.told_changes (versions telling.entry) level against.now most) }
 {
-    let Comparison {
-        direction,
-        level,
-        old,
-        new,
-    } = comparison;
-    let telling = Telling {
+    let Telling {
         alloc,
         direction,
-        old,
-        new,
-    };
+        ..
+    } = telling;
     let ByLevel { wire: told, behind } = telling.by_level()?;
     let json_beyond = json_beyond(level, behind.json.as_slice().len());
     let source_beyond = source_beyond(level, behind.source.as_slice().len());
@@ -128,6 +116,42 @@ pub fn tell_changes(
         json_beyond,
         source_beyond,
     })
+}
+
+/// Tells what a new pool changes of an older one, by a name for that one, in each direction of the
+/// compatibility, backward first. Of each direction it tells so many of the changes at most, the
+/// first of them, how many there are, and how many more there are at the levels that contain the one
+/// that is asked for.
+///
+/// # Errors
+/// `AllocError` where memory was refused.
+pub fn tell_changes(
+    alloc: Global,
+    comparison: Comparison<'_>,
+    against: &str,
+    most: usize,
+) -> Result<Vec<ToldChanges>, AllocError>
+    ensures { IfOk result (λ told. told.items ≡ spec.told_for comparison.entry.compatibility
+        comparison.entry.old.now comparison.entry.new.now comparison.entry.level against.now
+        most) }
+{
+    let Comparison {
+        compatibility,
+        level,
+        old,
+        new,
+    } = comparison;
+    let mut told = Vec::new(alloc);
+    for direction in compatibility.directions() {
+        let telling = Telling {
+            alloc,
+            direction: *direction,
+            old,
+            new,
+        };
+        told.push(tell_direction(telling, level, against, most)?)?;
+    }
+    Ok(told)
 }
 
 /// The changes of two pools at a level, a reader of the new one's schema and a writer of the old

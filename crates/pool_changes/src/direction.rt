@@ -1,6 +1,7 @@
 //! In which direction two versions are compared.
 
 ghost use Rattle.std.specs.Prelude.{◌≡◌};
+ghost use Rattle.pool_changes.specs.Comparing.{directions};
 ghost use Rattle.pool_changes.specs.Words as spec;
 
 /// In which direction two versions are compared.
@@ -20,6 +21,30 @@ impl Direction {
         match self {
             Direction::Backward => "backward",
             Direction::Forward => "forward",
+        }
+    }
+}
+
+/// Which version is to read what the other writes.
+#[derive(Clone, Copy, PartialEq, Debug)]
+pub enum Compatibility {
+    /// The new one what an older one writes.
+    Backward,
+    /// An older one what the new one writes.
+    Forward,
+    /// Each what the other writes.
+    Full,
+}
+
+impl Compatibility {
+    /// The directions in which two versions are then compared, in order.
+    pub(crate) fn directions(self) -> &'static [Direction]
+        ensures { result.now ≡ directions self }
+    {
+        match self {
+            Compatibility::Backward => &[Direction::Backward],
+            Compatibility::Forward => &[Direction::Forward],
+            Compatibility::Full => &[Direction::Backward, Direction::Forward],
         }
     }
 }

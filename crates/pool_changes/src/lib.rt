@@ -27,7 +27,7 @@ mod told;
 mod words;
 
 pub use comparing::{Comparison, changes, tell_changes};
-pub use direction::Direction;
+pub use direction::{Compatibility, Direction};
 pub use kinds::{Level, levels};
 pub use laws::{
     chains, fresh_number_is_kept, keeps_itself, no_loss_is_read, unchanged_is_read, untold_is_kept,

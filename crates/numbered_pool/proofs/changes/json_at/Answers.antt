@@ -1,4 +1,4 @@
-use Rattle.std.proofs.Common.{◌≡◌, [], ◌∷◌, IfOk, string_bytes, ap, subst, ◌∙◌}
+use Rattle.std.proofs.Common.{◌≡◌, IfOk, string_bytes, ap, subst, ◌∙◌}
 use Rattle.pool_changes.specs.Texts.{with_changes}
 use Rattle.record_walk.specs.Counts.{counts_in}
 use Rattle.verdict_texts.specs.Objects.{accepted_json}
@@ -9,9 +9,8 @@ use Rattle.numbered_pool.proofs.changes.json_at.Goals as goal
 pub returns : goal.returns
 unfolding json_at
 returns c =
-    let told : c.in_ok-told.told ≡ changes_told c.args.new.now c.args.older.now c.args.level = c.in_ok-told.ensures in
-    let all : c.from_ref.result.now ≡ changes_told c.args.new.now c.args.older.now c.args.level ∷ [] =
-    c.from_ref.ensures.value ∙ ap (λ changes. changes ∷ []) told in
+    let all : c.as_slice.result.now ≡ changes_told c.args.new.now c.args.older.now c.args.terms =
+    c.as_slice.ensures ∙ c.in_ok-told.ensures in
     let object : c.as_str.result.now ≡ accepted_json (counts_in c.args.new.now.pool) =
     c.as_str.ensures.value ∙ c.in_ok-object.ensures ∙ ap accepted_json c.counts.ensures in
     subst (λ text. IfOk c.with_changes.result (λ s. string_bytes s ≡ text)) (λ i. with_changes (all i) (object i)) c.with_changes.ensures
