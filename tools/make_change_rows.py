@@ -1733,7 +1733,7 @@ def sarif_log(results: list[object], compared: list[object]) -> dict[str, object
         }
         for level, code, said, note in RULES
     ]
-    driver = {"name": "check_descriptors", "version": "0.2.0", "rules": rules}
+    driver = {"name": "check_descriptors", "version": "0.3.0", "rules": rules}
     properties = {"compared": compared}
     run = {"tool": {"driver": driver}, "results": results, "properties": properties}
     schema = "https://json.schemastore.org/sarif-2.1.0.json"

@@ -11,7 +11,7 @@ use std::alloc::{AllocError, Global};
 use verdict_texts::Format;
 
 /// The version of the program.
-pub const VERSION: &str = "check_descriptors 0.2.0\n";
+pub const VERSION: &str = "check_descriptors 0.3.0\n";
 
 /// What the program does, and its arguments.
 pub const HELP: &str = "\

@@ -23,14 +23,14 @@ use crate::view::View;
 use numbered_pool::{Added, Answers, Item, PoolCounts, Status};
 use std::alloc::Global;
 
-/// 0.2.0, as the programs have it.
-const VERSION: u32 = 2000;
+/// 0.3.0, as the programs have it.
+const VERSION: u32 = 3000;
 
 /// The version of the library: a thousand thousands for the first number, a thousand for the
 /// second, one for the third.
 #[unsafe(no_mangle)]
 pub extern "C" fn protolink_version() -> u32
-    ensures { result ≡ 2000 }
+    ensures { result ≡ 3000 }
 {
     VERSION
 }

@@ -4,7 +4,7 @@
 /// with what it says, what to do, and its level as a tag. They stand in the order of the levels.
 pub const CHANGE_RULES: &str = "\
 {\"$schema\":\"https://json.schemastore.org/sarif-2.1.0.json\",\"version\":\"2.1.0\",\
-\"runs\":[{\"tool\":{\"driver\":{\"name\":\"check_descriptors\",\"version\":\"0.2.0\",\"rules\":[\
+\"runs\":[{\"tool\":{\"driver\":{\"name\":\"check_descriptors\",\"version\":\"0.3.0\",\"rules\":[\
 {\"id\":\"field-kind\",\
 \"shortDescription\":{\"text\":\"A value of a field is read otherwise, or is refused.\"},\
 \"help\":{\"text\":\"Take a new number, and reserve the old one.\"},\

@@ -4,7 +4,7 @@
 /// says and what to do. The kinds of faults stand in the order of the pages.
 pub const RULES: &str = "\
 {\"$schema\":\"https://json.schemastore.org/sarif-2.1.0.json\",\"version\":\"2.1.0\",\
-\"runs\":[{\"tool\":{\"driver\":{\"name\":\"check_descriptors\",\"version\":\"0.2.0\",\"rules\":[\
+\"runs\":[{\"tool\":{\"driver\":{\"name\":\"check_descriptors\",\"version\":\"0.3.0\",\"rules\":[\
 {\"id\":\"UnequalFile\",\
 \"shortDescription\":{\"text\":\"Sets have unequal files of one name.\"},\
 \"help\":{\"text\":\"Give one of them.\"}}\
