@@ -12,7 +12,7 @@ from pathlib import Path
 from types import SimpleNamespace
 from typing import Optional
 
-SONAME = "libprotolink.so.0"
+SONAME = "libprotolink.so.0.3"
 
 DONE, REFUSED, FAULT, NO_MEMORY, SHORT, TOO_MANY, NOT_FOUND = range(7)
 """How a call of the library ends."""
