@@ -5,7 +5,6 @@ from __future__ import annotations
 import difflib
 import os
 import re
-import resource
 import shutil
 import subprocess
 import tempfile
@@ -169,9 +168,6 @@ def whole(parts: tuple[Part, ...]) -> Count:
     began = time.monotonic()
     os.environ[programs.FOLDER] = str(programs.UNPROVED)
     count = side_by_side((*parts, *own_parts()))
-    used = resource.getrusage(resource.RUSAGE_CHILDREN)
-    clock, processors = time.monotonic() - began, used.ru_utime + used.ru_stime
-    took = f"{clock / 60:.1f} minutes by the clock, {processors / 60:.1f} of processors"
-    counts.tell(f"tools/check: {took}")
+    counts.tell(f"tools/check: {(time.monotonic() - began) / 60:.1f} minutes by the clock")
     counts.tell("tools/check: nothing was proved: this tries programs that no proof has passed")
     return count
