@@ -73,9 +73,9 @@ extern "C" {
 
 /*
  * The version of this header: a million for the first number, a thousand for the second, one for
- * the third. 0.2.0 is 2000.
+ * the third. 0.3.0 is 3000.
  */
-#define PROTOLINK_VERSION 2000
+#define PROTOLINK_VERSION 3000
 
 /*
  * A pool of linked files. All zero is an empty pool, which owns nothing. The pointer is the

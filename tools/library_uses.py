@@ -33,13 +33,13 @@ from pathlib import Path
 sys.dont_write_bytecode = True
 
 import needs
+from abi import SONAME
 from library_speed import ToolError, field, message, must, run_of, service_files
 
 TOP = Path(__file__).resolve().parent.parent
 BINDINGS = TOP / "bindings"
 DIST = TOP / "dist"
 LIB = DIST / "lib"
-SONAME = "libprotolink.so.0"
 RUNS = 5
 VERSIONS = 200
 

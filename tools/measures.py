@@ -18,6 +18,7 @@ from pathlib import Path
 from typing import NamedTuple
 
 import architecture
+import edits
 
 TOP = Path(__file__).resolve().parent.parent
 CRATES = TOP / "crates"
@@ -160,8 +161,8 @@ def measures() -> Iterator[Measure]:
     yield Measure("functions of more than four", 45, four)
     yield Measure("lines of code and definitions past 100 columns", 0, list(wide_lines()))
     yield Measure("comments that lean on what stands before", 0, list(leaning_comments()))
-    edits = sorted(CRATES.glob("*/must-fail/*.edit"))
-    yield Measure("edits that must be refused", 220, [str(it.relative_to(TOP)) for it in edits])
+    paths = [str(path.relative_to(TOP)) for path in edits.files()]
+    yield Measure("edits that must be refused", edits.most(), paths)
     count = len((TOP / "README.md").read_text().splitlines())
     yield Measure("lines of README", 200, [f"README.md:{it}" for it in range(1, count + 1)])
 

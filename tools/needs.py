@@ -52,6 +52,18 @@ def python() -> Optional[str]:
     return None
 
 
+def toolchain() -> Optional[Path]:
+    """The folder of the toolchain. In it stands c/liblibc_c.a, by which Rattle code asks the C
+    library for memory."""
+    for tool in ("rattle", "rt"):
+        found = shutil.which(tool)
+        if found is not None:
+            folder = Path(found).resolve().parent.parent
+            if (folder / "c/liblibc_c.a").is_file():
+                return folder
+    return None
+
+
 def python_headers() -> Optional[Path]:
     """The folder of the headers of Python: those of this interpreter, else Debian's."""
     folders = [Path(sysconfig.get_path("include"))]
@@ -63,16 +75,21 @@ def python_headers() -> Optional[Path]:
 PROTOC = Need("protobuf-compiler", lambda: has_tools("protoc"))
 PROTOBUF_FILES = Need("libprotobuf-dev", lambda: has_include("google/protobuf/descriptor.proto"))
 
-ALL = (
+QUICK = (
     PROTOC,
     PROTOBUF_FILES,
     Need("libprotoc-dev", lambda: has_include("google/protobuf/compiler/plugin.proto")),
     Need("python3-protobuf", lambda: python() is not None),
+    Need("gcc", lambda: has_tools("gcc", "cc")),
+    Need("libc6-dev", lambda: has_include("stdio.h")),
+)
+"""What the quick test wants besides rt."""
+
+ALL = (
+    *QUICK,
     Need("python3-dev", lambda: python_headers() is not None),
     Need("mypy", lambda: has_tools("mypy")),
-    Need("gcc", lambda: has_tools("gcc", "cc")),
     Need("g++", lambda: has_tools("g++")),
-    Need("libc6-dev", lambda: has_include("stdio.h")),
     Need("binutils", lambda: has_tools("ar", "ld", "nm", "objcopy", "strip")),
     Need("clang", lambda: has_tools("clang", "clang++")),
     Need("valgrind", lambda: has_tools("valgrind")),

@@ -19,13 +19,15 @@ import unittest
 from pathlib import Path
 from typing import Any, Iterator
 
+import programs
+
 try:
     from google.protobuf import descriptor_pb2
 except ImportError:
     descriptor_pb2 = None
 
 HERE = Path(__file__).resolve().parent
-CHECK = HERE.parent / "crates/check_descriptors/out/check_descriptors"
+CHECK = programs.path("check_descriptors")
 INT32, INT64, UINT32, UINT64, BOOL, ENUM = 5, 3, 13, 4, 8, 14
 STRING, BYTES, MESSAGE, GROUP = 9, 12, 11, 10
 REQUIRED, REPEATED = 2, 3

@@ -12,7 +12,7 @@
 What is refused raises `Refused`, whose `faults` are data. The pool is then what it was. What a pool
 has is told by the names of protobuf's own descriptors, and by those of its descriptor_pool.
 
-The library is `libprotolink.so.0`: in the folder that PROTOLINK_LIB_DIR names, else beside this
+The library is `libprotolink.so.0.3`: in the folder that PROTOLINK_LIB_DIR names, else beside this
 file, else where the system finds it. Without it the import raises an ImportError. Threads may share
 a pool: look-ups take no lock, and wait only for calls that change it.
 """

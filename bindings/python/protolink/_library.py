@@ -12,7 +12,7 @@ from pathlib import Path
 from types import SimpleNamespace
 from typing import Optional
 
-SONAME = "libprotolink.so.0"
+SONAME = "libprotolink.so.0.3"
 
 DONE, REFUSED, FAULT, NO_MEMORY, SHORT, TOO_MANY, NOT_FOUND = range(7)
 """How a call of the library ends."""
@@ -316,6 +316,6 @@ lib = _lib
 
 
 def version() -> str:
-    """The version of the library, as `0.2.0`."""
+    """The version of the library, as `0.3.0`."""
     number = lib.version()
     return f"{number // 1_000_000}.{number // 1000 % 1000}.{number % 1000}"

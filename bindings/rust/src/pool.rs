@@ -403,7 +403,7 @@ impl DescriptorPool {
         (0..self.counts().extensions).map(move |index| ExtensionDescriptor::new(self, index))
     }
 
-    /// The version of the linked library, as `0.2.0`.
+    /// The version of the linked library, as `0.3.0`.
     #[must_use]
     pub fn library_version() -> String {
         let version = version();
