@@ -61,7 +61,7 @@ HEAD = """\
 
 A proof is worth what it rests on. Those of this repository rest on what this page names, and on nothing else. `tools/trusted.py` prints the page. The gate compares it with what is printed.
 
-- **The toolchain.** Its checker judges the proofs, by its model of what code does. Its compiler makes machine code of what was proved, by LLVM or by a back end of its own. No proof of this repository speaks of either ([which line of the toolchain](../README.md#what-is-trusted)).
+- **The toolchain.** Its checker judges the proofs, by its model of what code does. Its compiler makes machine code of what was proved, by LLVM or by a back end of its own. No proof of this repository speaks of either ([which line of the toolchain](../README.md#install-it)).
 - **The definitions.** A contract says that a call does what a definition says. Whether that is what protobuf means, people judge who read it. [PROVED.md](PROVED.md) names the definitions of each call.
 - **Functions of C.** Rattle's standard library calls them. Each has a contract, which says what the C library or the operating system does. Nothing checks that they do so. They are [listed below](#functions-of-c).
 - **Devices.** What a program reads and writes goes through a few files that no contract binds to the machine. They are tested, and [listed below](#devices).
