@@ -9,3 +9,6 @@ pub mod Firsts
 pub mod Openings
 pub mod FieldsLed
 pub mod Untold
+pub mod Filed
+pub mod Called
+pub mod Nothing

@@ -12,3 +12,4 @@ pub mod AtLevels
 pub mod Telling
 pub mod Comparing
 pub mod Texts
+pub mod Itself
