@@ -12,3 +12,5 @@ pub mod Untold
 pub mod Filed
 pub mod Called
 pub mod Nothing
+pub mod Lacking
+pub mod Losing

@@ -13,3 +13,4 @@ pub mod Telling
 pub mod Comparing
 pub mod Texts
 pub mod Itself
+pub mod Lost

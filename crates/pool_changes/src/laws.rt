@@ -6,6 +6,7 @@ ghost use Rattle.pool_changes.specs.Comparing.{changes};
 ghost use Rattle.pool_changes.specs.declared.direction.Direction.{Direction};
 ghost use Rattle.pool_changes.specs.declared.kinds.Level.TheVariants.{Wire};
 ghost use Rattle.pool_changes.specs.Itself.{NothingIsTold};
+ghost use Rattle.pool_changes.specs.Lost.{ChangeIsLost};
 ghost use Rattle.pool_changes.specs.Laws.{Chains, FreshNumberIsKept, NoLossIsRead};
 ghost use Rattle.pool_changes.specs.Laws.{UnchangedIsRead, UntoldIsKept, UntoldIsRead};
 ghost use Rattle.pool_changes.specs.Laws.{UntoldIsUnchanged, UntoldMapsAreRead};
@@ -87,4 +88,14 @@ pub fn fresh_number_is_kept(pool: &DescriptorPool)
     ensures { FreshNumberIsKept pool.now }
 {
     pool.made();
+}
+
+/// By each change of a message that is of scalar types, or of a field that is newly required,
+/// something is lost: if the old pool's schema writes the message at all, it writes one that the new
+/// one's does not read, or reads otherwise.
+pub fn change_is_lost(old: &DescriptorPool, new: &DescriptorPool)
+    ensures { ChangeIsLost old.now new.now }
+{
+    old.made();
+    new.made();
 }
