@@ -1,4 +1,4 @@
 pub mod Nested
 pub mod Told
 pub mod Distinct
-pub mod Rounds
+pub mod Chains

@@ -1,7 +1,7 @@
 -- What files may not be, and what they may not import (protobuf's `BuildFile`).
-use Rattle.std.specs.Prelude.{ℕ, zero, suc, Bool, false, not, ◌==◌, List, [], ◌++◌, length, map}
-use Rattle.std.specs.Prelude.{position, slice_get, take, unwrap_or}
-use Rattle.std.specs.List.{list_all}
+use Rattle.std.specs.Prelude.{◌≡◌, ◌↔◌, ℕ, zero, suc, nat_eq, nat_lt, Bool, true, false, ◌==◌}
+use Rattle.std.specs.Prelude.{List, [], ◌∷◌, ◌++◌, length, map, position, slice_index_or, take}
+use Rattle.std.specs.List.{Contains, IsDistinct, list_any}
 use Rattle.plain_data.specs.Lists.{only_if}
 use Rattle.proto_types.specs.Readers.{text_of}
 use Rattle.proto_types.specs.declared.tag.file.TheConstants.{DEPENDENCY, NAME}
@@ -29,29 +29,44 @@ import_faults id imports n f = pair_faults kind.DuplicateImport id (entry DEPEND
 abbrev pub imports : List FileDescriptorInner → List (List ℕ)
 imports files = map (λ f. f.dependencies) files
 
--- whether a file is known to end its chains of imports
-abbrev pub ends : List Bool → ℕ → Bool
-ends known n = unwrap_or (slice_get known n) false
+-- the files that a file imports
+abbrev pub imports_of : List (List ℕ) → ℕ → List ℕ
+imports_of fs n = slice_index_or fs n []
 
--- whether all of some files are known to end their chains of imports
-abbrev pub all_end : List Bool → List ℕ → Bool
-all_end known fs = list_all (ends known) fs
+-- whether there is a chain of so many imports from a file
+abbrev pub has_chain : List (List ℕ) → ℕ → ℕ → Bool
+has_chain fs zero n = nat_lt n (length fs)
+has_chain fs (suc k) n = list_any (has_chain fs k) (imports_of fs n)
 
--- which files have no chain of imports with so many files: in a chain that is as long as there are
--- files a file comes twice
-abbrev pub known_after : List (List ℕ) → ℕ → List Bool
-known_after fs zero = []
-known_after fs (suc n) = map (all_end (known_after fs n)) fs
+-- whether a chain of imports from a file has as many as there are files, so that one comes twice
+abbrev pub comes_back : List (List ℕ) → ℕ → Bool
+comes_back fs n = has_chain fs (length fs) n
+
+-- whether each of some files imports the next one
+abbrev pub IsChain : List (List ℕ) → List ℕ → Type 0
+IsChain fs [] = Unit {0}
+IsChain fs (n ∷ []) = Unit {0}
+IsChain fs (n ∷ (m ∷ rest)) = Contains (imports_of fs n) m × IsChain fs (m ∷ rest)
+
+-- law: a chain of imports from a file comes back exactly where there is a chain from it in which a
+-- file comes twice
+abbrev pub ChainsComeBack : Type 0
+ChainsComeBack = (fs : List (List ℕ)) (n : ℕ) → (comes_back fs n ≡ true)
+    ↔ ((rest : List ℕ) × IsChain fs (n ∷ rest) × (¬ (IsDistinct nat_eq (n ∷ rest))))
+
+-- whether a file is marked
+abbrev pub is_marked : List Bool → ℕ → Bool
+is_marked marks n = slice_index_or marks n false
 
 -- what a file may not be: without a name, in a package that is none, with a chain of imports that
--- does not end, nor with an import twice
-abbrev pub file_faults : List Bool → ℕ → FileDescriptorInner → List StrictFault
-file_faults known n f =
+-- comes back, nor with an import twice
+abbrev pub file_faults : (ℕ → Bool) → ℕ → FileDescriptorInner → List StrictFault
+file_faults is_back n f =
     only_if (length (text_of f.raw.name) == 0) (at_part kind.MissingFileName (file_id n) NAME)
     ++ (package_faults (file_id n) (text_of f.raw.«package»)
-    ++ (only_if (not (ends known n)) (at_part kind.ImportCycle (file_id n) DEPENDENCY)
+    ++ (only_if (is_back n) (at_part kind.ImportCycle (file_id n) DEPENDENCY)
     ++ each_told (import_faults (file_id n) f.dependencies) f.dependencies))
 
 -- what files may not be
 abbrev pub files_faults : List FileDescriptorInner → List StrictFault
-files_faults files = each_told (file_faults (known_after (imports files) (length files))) files
+files_faults files = each_told (file_faults (comes_back (imports files))) files

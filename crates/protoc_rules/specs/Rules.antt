@@ -40,7 +40,7 @@ abbrev pub strict_rule : StrictKind → ToldRule
 strict_rule kind.MissingFileName = alone (codes "MissingFileName")
     (codes "is no name of a file") (codes "give the file a name")
 strict_rule kind.ImportCycle = alone (codes "ImportCycle")
-    (codes "imports itself, directly or through other files")
+    (codes "imports itself or a file that does, directly or through other files")
     (codes "leave out an import of the cycle; what two files both need can stand in a third")
 strict_rule kind.DuplicateImport = beside (codes "DuplicateImport")
     (codes "imports a file twice") (codes "first imported at ")

@@ -15,7 +15,7 @@ use std::marker::Model;
 pub enum StrictKind {
     /// A file has no name.
     MissingFileName,
-    /// A file imports itself, or one that does, be it through others.
+    /// A file imports itself or a file that does, directly or through other files.
     ImportCycle,
     /// A file imports one twice.
     DuplicateImport,

@@ -1,7 +1,8 @@
 //! What files may not be, and what they may not import.
 
-ghost use Rattle.std.specs.Prelude.{◌≡◌, ◌<◌, ◌++◌, OnOk, IfOk, length, map};
+ghost use Rattle.std.specs.Prelude.{◌≡◌, ◌<◌, ◌++◌, ℕ, true, OnOk, IfOk, length, map};
 ghost use Rattle.std.specs.Prelude.{position as position_of};
+ghost use Rattle.std.specs.List.{list_any};
 ghost use Rattle.protoc_rules.specs.Faults.{each_told, told_at};
 ghost use Rattle.protoc_rules.specs.Imports as spec;
 
@@ -73,86 +74,100 @@ fn tell_imports(found: &mut Found, id: &Identity, imports: &[u32]) -> Result<(),
     Ok(())
 }
 
-/// Whether a file is known to end its chains of imports.
-fn ends(known: &[bool], file: u32) -> bool
-    ensures { result ≡ spec.ends known.now file }
+/// Whether a file is marked.
+fn is_marked(marks: &[bool], file: u32) -> bool
+    ensures { result ≡ spec.is_marked marks.now file }
 {
-    match known.get(file as usize) {
-        Some(known) => *known,
+    match marks.get(file as usize) {
+        Some(mark) => *mark,
         None => false,
     }
 }
 
-/// Whether all of some files are known to end their chains of imports.
-fn all_end(known: &[bool], imports: &[u32]) -> bool
-    ensures { result ≡ spec.all_end known.now imports.now }
+/// Whether one of some files is marked.
+fn any_marked(marks: &[bool], files: &[u32]) -> bool
+    ensures { result ≡ list_any (spec.is_marked marks.now) files.now }
 {
-    imports.iter().all(|import| ends(known, *import))
+    files.iter().any(|file| is_marked(marks, *file))
 }
 
-/// For each file whether its chains of imports are known to end, by what is known of its imports.
-fn known_next(
+/// The files that import one that is marked.
+fn importing(
     alloc: Global,
     files: &[FileDescriptorInner],
-    known: &[bool],
+    marks: &[bool],
 ) -> Result<Items<bool>, AllocError>
-    ensures { IfOk result (λ next. next ≡ map (spec.all_end known.now) (spec.imports files.now)) }
+    ensures { IfOk result (λ next. next
+        ≡ map (list_any (spec.is_marked marks.now)) (spec.imports files.now)) }
 {
     let mut next = Items::new(alloc);
     for file in files {
-        next.push(all_end(known, file.dependencies.as_slice()))?;
+        next.push(any_marked(marks, file.dependencies.as_slice()))?;
     }
     Ok(next)
 }
 
-/// Which files end all their chains of imports. A round that tells nothing new is the last one.
-fn ending_files(alloc: Global, files: &[FileDescriptorInner]) -> Result<Items<bool>, AllocError>
-    ensures { IfOk result (λ known. known
-        ≡ spec.known_after (spec.imports files.now) (length files.now)) }
+/// A mark for each file.
+fn all_files(alloc: Global, files: &[FileDescriptorInner]) -> Result<Items<bool>, AllocError>
+    ensures { IfOk result (λ marks. marks ≡ map (λ _. true) (spec.imports files.now)) }
 {
-    let mut known = Items::new(alloc);
-    'rounds: for _round in 0..files.len() {
-        let next = known_next(alloc, files, known.as_slice())?;
-        if next == known {
-            return Ok(known);
-        }
-        known = next;
+    let mut marks = Items::new(alloc);
+    for _file in files {
+        marks.push(true)?;
     }
-    Ok(known)
+    Ok(marks)
 }
 
-/// Appends what a file may not be: without a name, in a package that is none, in a cycle of imports
-/// or with one behind it, nor with an import twice.
+/// The files from which a chain of imports comes back. A round that changes no mark is the last
+/// one.
+fn coming_back(alloc: Global, files: &[FileDescriptorInner]) -> Result<Items<bool>, AllocError>
+    ensures { IfOk result (λ marks. (n : ℕ)
+        → spec.is_marked marks n ≡ spec.comes_back (spec.imports files.now) n) }
+{
+    let mut marks = all_files(alloc, files)?;
+    'rounds: for _round in 0..files.len() {
+        let next = importing(alloc, files, marks.as_slice())?;
+        if next == marks {
+            return Ok(marks);
+        }
+        marks = next;
+    }
+    Ok(marks)
+}
+
+/// Appends what a file may not be: without a name, in a package that is none, with a chain of
+/// imports that comes back, nor with an import twice.
 fn tell_file(
     found: &mut Found,
     index: usize,
     file: &FileDescriptorInner,
-    known: &[bool],
+    marks: &[bool],
 ) -> Result<(), AllocError>
     ensures { OnOk result (found.new
-        ≡ found.old ++ spec.file_faults known.now index file.now) }
+        ≡ found.old ++ spec.file_faults (spec.is_marked marks.now) index file.now) }
 {
     let id = file_id(found.alloc(), index)?;
     let unnamed = file.raw.name().is_empty();
-    let in_cycle = !ends(known, id.file);
+    let is_back = is_marked(marks, id.file);
     found.tell_if(unnamed, StrictKind::MissingFileName.of(&id), NAME)?;
     tell_package(found, &id, file.raw.package())?;
-    found.tell_if(in_cycle, StrictKind::ImportCycle.of(&id), DEPENDENCY)?;
+    found.tell_if(is_back, StrictKind::ImportCycle.of(&id), DEPENDENCY)?;
     tell_imports(found, &id, file.dependencies.as_slice())
 }
 
-/// Appends what some files may not be, where it is known which end their chains of imports.
+/// Appends what some files may not be, where those are marked from which a chain of imports comes
+/// back.
 #[tactic(auto, using(crate::proofs::Told::told_next))]
 fn tell_each_file(
     found: &mut Found,
     files: &[FileDescriptorInner],
-    known: &[bool],
+    marks: &[bool],
 ) -> Result<(), AllocError>
     ensures { OnOk result (found.new
-        ≡ found.old ++ each_told (spec.file_faults known.now) files.now) }
+        ≡ found.old ++ each_told (spec.file_faults (spec.is_marked marks.now)) files.now) }
 {
     for (index, file) in files.iter().enumerate() {
-        tell_file(found, index, file, known)?;
+        tell_file(found, index, file, marks)?;
     }
     Ok(())
 }
@@ -163,7 +178,7 @@ impl Linked<'_> {
         ensures { OnOk result (found.new
             ≡ found.old ++ spec.files_faults self.entry.files.now) }
     {
-        let known = ending_files(found.alloc(), self.files)?;
-        tell_each_file(found, self.files, known.as_slice())
+        let marks = coming_back(found.alloc(), self.files)?;
+        tell_each_file(found, self.files, marks.as_slice())
     }
 }

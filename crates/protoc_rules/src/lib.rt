@@ -8,6 +8,7 @@ mod faults;
 mod fields;
 mod imports;
 mod labels;
+pub mod laws;
 mod linked;
 mod maps;
 mod messages;

@@ -46,7 +46,7 @@ pub(crate) fn strict_rule(kind: StrictKind) -> StrictRule
         ),
         StrictKind::ImportCycle => alone(
             "ImportCycle",
-            "imports itself, directly or through other files",
+            "imports itself or a file that does, directly or through other files",
             "leave out an import of the cycle; what two files both need can stand in a third",
         ),
         StrictKind::DuplicateImport => StrictRule {
