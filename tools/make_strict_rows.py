@@ -32,6 +32,7 @@ STRICT = breaks.DATA / "strict"
 REBUILD = "where the file was built against another version of what it imports, build both again"
 A = "a.proto"
 B = "b.proto"
+C = "c.proto"
 
 
 @dataclass
@@ -402,11 +403,11 @@ breaks_rule(
 
 
 def cycle(file: str) -> Fault:
-    """That a file imports itself."""
+    """That a file imports itself or a file that does."""
     return fault(
         "ImportCycle",
         file,
-        "imports itself, directly or through other files",
+        "imports itself or a file that does, directly or through other files",
         "leave out an import of the cycle; what two files both need can stand in a third",
         Place(file, [3], None),
     )
@@ -421,7 +422,7 @@ ROWS.append(
                 SETS["ImportCycle"][0], descriptor_pb2.FileDescriptorSet()
             ).file
         },
-        [cycle(A), cycle(B)],
+        [cycle(A), cycle(B), cycle(C)],
         True,
     )
 )

@@ -3,3 +3,5 @@
 a.protob.proto
 
 b.protoa.proto
+
+c.protoa.proto
