@@ -26,10 +26,20 @@ FEWEST = 220
 """How many edits at least the gate wants to be refused. It is raised with the edits, and not
 lowered."""
 
-FEWEST_OF = {"field_rules": 14}
+MOST_WEAK = 22
+"""How many edits at most may be refused by a limit of the prover alone, or since a proof file names
+what is gone. It is lowered as they are mended, and not raised."""
+
+FEWEST_OF = {
+    "field_rules": 14,
+    "joined_files": 4,
+    "message_values": 2,
+    "pool_changes": 15,
+    "pool_laws": 2,
+}
 """How many edits at least these crates have."""
 
-LINES = 200
+LINES = 180
 """There is at most one edit for so many lines of code with rules, over all crates."""
 
 WITHOUT_RULES = re.compile(r"test_(?!rows)\w+|example_\w+|proto_records|pool_parts")

@@ -80,7 +80,8 @@ class Change:
 @dataclass
 class Row:
     """A row: both sources, and the changes of each direction that is tried. The new version's source
-    stands in a file with a name of its own, if that is given."""
+    stands in a file with a name of its own, if that is given. The source of e.proto may stand beside
+    both, which import it."""
 
     name: str
     old: str
@@ -91,6 +92,7 @@ class Row:
     level: Optional[str] = None
     file: str = FILE
     format: Optional[str] = None
+    beside: Optional[str] = None
 
 
 ROWS: list[Row] = []
@@ -175,6 +177,15 @@ of_one_field(
     "uint32",
     kind("m.M.a", 1, "open enum m.E", "uint32"),
     head=P3 + E,
+)
+ROWS.append(
+    Row(
+        "int32-to-open-enum-in-proto2",
+        P2 + 'import "e.proto";\n' + message("optional int32 a = 1;"),
+        P2 + 'import "e.proto";\n' + message("optional E a = 1;"),
+        backward=[],
+        beside=P3 + E,
+    )
 )
 kept("open-enum-loses-a-value", P3 + E + message("E a = 1;"), P3 + E_LESS + message("E a = 1;"))
 of_one_field("closed-enum-to-int32", "E", "int32", head=P2 + E)
@@ -600,6 +611,23 @@ told(
     ),
 )
 kept(
+    "extension-takes-a-number-left-to-extensions",
+    P2 + message("extensions 1 to 10;"),
+    P2 + message("extensions 1 to 10;") + "extend M {\n  optional string x = 1;\n}\n",
+)
+told(
+    "field-becomes-an-extension-of-another-kind",
+    P2 + message("optional int32 a = 1;"),
+    P2 + message("extensions 1 to 10;") + "extend M {\n  optional string x = 1;\n}\n",
+    Change(
+        "field-kind",
+        "'m.x' (1): int32 became string of proto2",
+        new_number(1),
+        "m.x",
+        "m.M.a",
+    ),
+)
+kept(
     "extension-becomes-a-field",
     EXTENDED + "extend M {\n  optional int32 x = 100;\n}\n",
     P2 + message("optional int64 x = 100;", "extensions 101 to 199;"),
@@ -875,6 +903,12 @@ at_level(
 )
 at_level(
     "json",
+    "json-key-of-a-map-that-is-renamed",
+    P3 + message("map<bool, int32> a = 1;"),
+    P3 + message('map<int32, int32> b = 1 [json_name = "a"];'),
+)
+at_level(
+    "json",
     "json-value-removed",
     P3 + E,
     P3 + E_LESS,
@@ -966,6 +1000,13 @@ at_level(
     P2 + N + message(),
     P2 + message(),
     gone("wire", "message-removed", "message", "m.N", FILE, WRITTEN),
+)
+told(
+    "all-messages-removed",
+    P2 + N + message("optional N a = 1;"),
+    P2,
+    gone("wire", "message-removed", "message", "m.N", FILE, WRITTEN),
+    gone("wire", "message-removed", "message", "m.M", FILE, WRITTEN),
 )
 at_level(
     "source",
@@ -1283,6 +1324,9 @@ BEYOND = {
     ("closed-enum-under-another-name", "backward"): (1, 1),
     ("closed-enum-with-renamed-values", "backward"): (1, 0),
     ("extension-becomes-a-field", "backward"): (1, 1),
+    ("field-becomes-an-extension-of-another-kind", "backward"): (1, 0),
+    ("int32-to-open-enum-in-proto2", "backward"): (0, 1),
+    ("json-key-of-a-map-that-is-renamed", "backward"): (0, 1),
     ("field-added-in-full", "forward"): (1, 0),
     ("field-into-a-oneof-alone", "backward"): (0, 2),
     ("field-removed-and-reserved", "backward"): (1, 0),
@@ -1347,19 +1391,21 @@ BEYOND = {
 }
 
 
-def compiled(source: str, file: str) -> bytes:
-    """The set that protoc makes of a source in a file with a name."""
+def compiled(source: str, file: str, beside: Optional[str]) -> bytes:
+    """The set that protoc makes of a source in a file with a name, which may import e.proto."""
     with tempfile.TemporaryDirectory() as folder:
         (Path(folder) / file).write_text(source)
+        (Path(folder) / "e.proto").write_text(beside or "")
         out = Path(folder) / "set.pb"
         words = ["protoc", f"-I{folder}", "--include_source_info", f"--descriptor_set_out={out}"]
+        words += [] if beside is None else ["--include_imports"]
         subprocess.run([*words, file], check=True, stderr=subprocess.DEVNULL)
         return out.read_bytes()
 
 
-def record_of(made: bytes) -> descriptor_pb2.FileDescriptorProto:
-    """The one record of a set."""
-    return descriptor_pb2.FileDescriptorSet.FromString(made).file[0]
+def records_of(made: bytes) -> list[descriptor_pb2.FileDescriptorProto]:
+    """The records of a set: what is imported stands first."""
+    return list(descriptor_pb2.FileDescriptorSet.FromString(made).file)
 
 
 def elements(file: descriptor_pb2.FileDescriptorProto) -> dict[str, list[int]]:
@@ -1389,10 +1435,11 @@ def elements(file: descriptor_pb2.FileDescriptorProto) -> dict[str, list[int]]:
     return found
 
 
-def counts_of(file: descriptor_pb2.FileDescriptorProto) -> list[int]:
-    """How many there are of each kind in a file."""
-    counts = [1, 0, len(file.enum_type), len(file.service), len(file.extension)]
-    waiting = list(file.message_type)
+def counts_of(files: list[descriptor_pb2.FileDescriptorProto]) -> list[int]:
+    """How many there are of each kind in some files."""
+    tops = [[len(it.enum_type), len(it.service), len(it.extension)] for it in files]
+    counts = [len(files), 0, *map(sum, zip(*tops))]
+    waiting = [one for file in files for one in file.message_type]
     while waiting:
         one = waiting.pop()
         counts[1] += 1
@@ -1462,11 +1509,12 @@ ROWS = [with_gone(row) for row in ROWS]
 
 @dataclass
 class Made:
-    """The two versions of a row, as protoc describes them."""
+    """The two versions of a row, as protoc describes them, and what the new one has of each kind."""
 
     old: descriptor_pb2.FileDescriptorProto
     new: descriptor_pb2.FileDescriptorProto
     against: str
+    counts: list[int]
     places: list[tuple[Records, Place]] = field(default_factory=list)
 
     def fault(self, change: Change) -> Fault:
@@ -1746,7 +1794,7 @@ def report_in(row: Row, made: Made, compared: list[object]) -> str:
     told_of = [(direction, changes) for direction, changes in sides if changes is not None]
     if row.format == "github":
         told = (annotations(made, row, direction, changes) for direction, changes in told_of)
-        return accepted_line(counts_of(made.new)) + "".join(told)
+        return accepted_line(made.counts) + "".join(told)
     make = quality_object if row.format == "gitlab" else sarif_result
     objects: list[object] = [
         make(made, direction, change)
@@ -1763,12 +1811,12 @@ def line_of(value: object) -> str:
 
 def row_files(row: Row) -> dict[str, bytes]:
     """The files of a row, by the ends of their names."""
-    old, new = compiled(row.old, FILE), compiled(row.new, row.file)
+    old, new = compiled(row.old, FILE, row.beside), compiled(row.new, row.file, row.beside)
     against = f"{row.name}.old.pb"
-    made = Made(record_of(old), record_of(new), against)
+    made = Made(records_of(old)[-1], records_of(new)[-1], against, counts_of(records_of(new)))
     directions = [("backward", row.backward), ("forward", row.forward)]
     compared = [(direction, changes) for direction, changes in directions if changes is not None]
-    text = accepted_line(counts_of(made.new))
+    text = accepted_line(made.counts)
     entries: list[dict[str, object]] = []
     objects: list[dict[str, object]] = []
     for direction, changes in compared:
@@ -1786,7 +1834,7 @@ def row_files(row: Row) -> dict[str, bytes]:
         "compared": entries,
         "changes": objects,
         "verdict": "accepted",
-        "counts": dict(zip(names, counts_of(made.new))),
+        "counts": dict(zip(names, made.counts)),
         "too_many": None,
         "faults": [],
         "more": 0,

@@ -33,8 +33,8 @@ RESULT = re.compile(r"test result: .*?(\d+) passed; (\d+) failed")
 MOST_SECONDS = 120
 """How long a program may take for what is stored beside it."""
 
-MOST_LINES = 20
-"""How many lines are shown of what differs."""
+MOST_LINES, MOST_COLUMNS = 20, 300
+"""How much is shown of what differs."""
 
 
 class Part(NamedTuple):
@@ -92,7 +92,7 @@ def count_of_run(name: str, done: subprocess.CompletedProcess[bytes]) -> Count:
         return Count(len(rows), 0)
     differing = difflib.unified_diff(wanted, told, "stored", "written", n=0, lineterm="")
     for line in [*list(differing)[:MOST_LINES], *lines_of(done.stderr)[:MOST_LINES]]:
-        counts.tell(f"  {line}")
+        counts.tell(f"  {line[:MOST_COLUMNS]}")
     counts.tell(f"{name} ended with status {done.returncode}, and {status} is stored")
     lost = max(len(set(rows) - set(told)), 1)
     return Count(len(rows) - lost, lost)

@@ -9,3 +9,8 @@ pub mod Firsts
 pub mod Openings
 pub mod FieldsLed
 pub mod Untold
+pub mod Filed
+pub mod Called
+pub mod Nothing
+pub mod Lacking
+pub mod Losing

@@ -12,3 +12,5 @@ pub mod AtLevels
 pub mod Telling
 pub mod Comparing
 pub mod Texts
+pub mod Itself
+pub mod Lost

@@ -123,6 +123,7 @@ impl Telling<'_> {
 
     /// Whether two fields, of which none is given a default value, are read alike where they are
     /// missing.
+    #[inline(always)]
     pub(crate) fn has_first_of(self, field: Part<'_>, kept: Part<'_>) -> bool
         ensures { result ≡ spec.have_first_alike (versions self.entry) (part field.entry)
             (part kept.entry) }

@@ -141,8 +141,9 @@ pub fn tell_changes(
         old,
         new,
     } = comparison;
+    let directions = compatibility.directions();
     let mut told = Vec::new(alloc);
-    for direction in compatibility.directions() {
+    for direction in directions {
         let telling = Telling {
             alloc,
             direction: *direction,

@@ -292,6 +292,7 @@ fn first_of_enum(pool: &DescriptorPool, index: u32) -> Option<&EnumValueDescript
 }
 
 /// The first value of the enum of a kind, if it is one.
+#[inline(always)]
 fn first_value(pool: &DescriptorPool, kind: KindIndex) -> Option<&EnumValueDescriptorInner>
     ensures { option_copied result ≡ spec.first_value pool.now kind }
 {
@@ -303,6 +304,7 @@ fn first_value(pool: &DescriptorPool, kind: KindIndex) -> Option<&EnumValueDescr
 
 /// The number that a missing field is read as where no default value is given: that of the first
 /// value of its enum, or 0.
+#[inline(always)]
 pub(crate) fn first_number(pool: &DescriptorPool, kind: KindIndex) -> i32
     ensures { result ≡ spec.first_number pool.now kind }
 {

@@ -5,6 +5,8 @@ ghost use Rattle.schema_changes.specs.Pools.{wire_changes};
 ghost use Rattle.pool_changes.specs.Comparing.{changes};
 ghost use Rattle.pool_changes.specs.declared.direction.Direction.{Direction};
 ghost use Rattle.pool_changes.specs.declared.kinds.Level.TheVariants.{Wire};
+ghost use Rattle.pool_changes.specs.Itself.{NothingIsTold};
+ghost use Rattle.pool_changes.specs.Lost.{ChangeIsLost};
 ghost use Rattle.pool_changes.specs.Laws.{Chains, FreshNumberIsKept, NoLossIsRead};
 ghost use Rattle.pool_changes.specs.Laws.{UnchangedIsRead, UntoldIsKept, UntoldIsRead};
 ghost use Rattle.pool_changes.specs.Laws.{UntoldIsUnchanged, UntoldMapsAreRead};
@@ -70,9 +72,12 @@ pub fn untold_is_unchanged(old: &DescriptorPool, new: &DescriptorPool)
     ensures backward { changes Wire old.now new.now ≡ [] → wire_changes old.now new.now ≡ [] }
 {}
 
-/// No pool changes anything of itself.
+/// No pool changes anything of itself, and nothing is told of it and itself: at wire in either
+/// direction, and at json and at source where no extension of a message has the number of one of its
+/// fields.
 pub fn keeps_itself(pool: &DescriptorPool)
-    ensures { wire_changes pool.now pool.now ≡ [] }
+    ensures unchanged { wire_changes pool.now pool.now ≡ [] }
+    ensures untold { NothingIsTold pool.now }
 {
     pool.made();
 }
@@ -83,4 +88,14 @@ pub fn fresh_number_is_kept(pool: &DescriptorPool)
     ensures { FreshNumberIsKept pool.now }
 {
     pool.made();
+}
+
+/// By each change of a message that is of scalar types, or of a field that is newly required,
+/// something is lost: if the old pool's schema writes the message at all, it writes one that the new
+/// one's does not read, or reads otherwise.
+pub fn change_is_lost(old: &DescriptorPool, new: &DescriptorPool)
+    ensures { ChangeIsLost old.now new.now }
+{
+    old.made();
+    new.made();
 }

@@ -30,8 +30,8 @@ pub use comparing::{Comparison, changes, tell_changes};
 pub use direction::{Compatibility, Direction};
 pub use kinds::{Level, levels};
 pub use laws::{
-    chains, fresh_number_is_kept, keeps_itself, no_loss_is_read, unchanged_is_read, untold_is_kept,
-    untold_is_read, untold_is_unchanged,
+    chains, change_is_lost, fresh_number_is_kept, keeps_itself, no_loss_is_read, unchanged_is_read,
+    untold_is_kept, untold_is_read, untold_is_unchanged,
 };
 pub use lines::write_changes;
 pub use named::message_named;

@@ -32,6 +32,7 @@ pub struct Compared<'a> {
 }
 
 /// Appends a change, unless a test passes.
+#[inline(always)]
 pub(crate) fn push_unless(
     changes: &mut Vec<WireChange>,
     passes: bool,
@@ -114,6 +115,7 @@ impl Compared<'_> {
     }
 
     /// Appends that a new entry is required, where the old one was not.
+    #[inline(always)]
     fn tell_required(&self, changes: &mut Vec<WireChange>, entry: &Entry) -> Result<(), AllocError>
         ensures { OnOk result (changes.new.items ≡ changes.old.items
             ++ required_changes (compared self.now) entry.now) }
@@ -124,6 +126,7 @@ impl Compared<'_> {
     }
 
     /// Appends that a new entry takes a number that was reserved.
+    #[inline(always)]
     fn tell_taken(
         &self,
         changes: &mut Vec<WireChange>,

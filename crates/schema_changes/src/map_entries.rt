@@ -14,6 +14,8 @@ use pool_types::MessageDescriptorInner;
 
 impl<'a> Parts<'a> {
     /// Whether the options of the record of a message say that it is an entry of a map.
+    // Not inlined, since few messages have two fields.
+    #[inline(never)]
     fn says_map_entry(self, message: &MessageDescriptorInner) -> bool
         ensures { result ≡ option_map_or says_map_entry
             (message_record (parts self.entry) message.now) false }
@@ -26,6 +28,7 @@ impl<'a> Parts<'a> {
 
     /// Whether a message is an entry of a map: it has two fields, and the options of its record say
     /// so.
+    #[inline(always)]
     #[tactic(auto, unfolding(crate::specs::MapEntries::is_map_entry))]
     pub fn is_map_entry(self, message: &MessageDescriptorInner) -> bool
         ensures { result ≡ is_map_entry (parts self.entry) message.now }
@@ -34,6 +37,7 @@ impl<'a> Parts<'a> {
     }
 
     /// The entry of a map that the message with an index is.
+    #[inline(always)]
     #[tactic(auto, unfolding(crate::specs::MapEntries::map_entry_at))]
     pub fn map_entry_at(self, index: u32) -> Option<&'a MessageDescriptorInner>
         ensures { option_copied result ≡ map_entry_at (parts self.entry) index }

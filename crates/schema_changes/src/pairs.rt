@@ -57,6 +57,7 @@ impl Compared<'_> {
     }
 
     /// Whether a new entry takes no number that the old message reserved, in some ranges.
+    #[inline(always)]
     pub(crate) fn leaves(&self, reserved: &[ReservedRange], entry: &Entry) -> bool
         requires { reserved.now ≡ reserved_of (parts self.now.old) self.now.before.now }
         ensures { result ≡ leaves_reserved (parts self.now.old) self.now.before.now entry.now }

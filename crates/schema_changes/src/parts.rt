@@ -53,6 +53,7 @@ impl<'a> Parts<'a> {
     }
 
     /// Whether a message has the full name of one of another pool.
+    #[inline(always)]
     #[tactic(auto, unfolding(crate::specs::Parts::one_name))]
     pub(crate) fn has_name_of(self, message: u32, other: Parts<'_>, index: u32) -> bool
         ensures { result ≡ one_name (parts self.entry) message (parts other.entry) index }

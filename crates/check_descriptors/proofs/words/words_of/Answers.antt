@@ -1,4 +1,4 @@
-use Rattle.std.proofs.Common.{rules, ℕ, ◌≡◌, ◌∙◌, ap, refl, List, [], ◌∷◌, map, drop, string_bytes}
+use Rattle.std.proofs.Common.{rules, ℕ, ◌≡◌, ◌∙◌, refl, List, [], ◌∷◌, map, drop, string_bytes}
 use Rattle.std.proofs.lemmas.Iterator.{YieldsList-from_map, items_from_collect}
 use Rattle.std.proofs.lemmas.Iterator.Adapters.{YieldsList-from_vec, YieldsList-from_skip}
 use Rattle.std.proofs.lemmas.Iterator.Consumers.{YieldsList-at}
