@@ -48,7 +48,7 @@ from dataclasses import dataclass
 from pathlib import Path
 from typing import Any, Iterator, Optional
 
-from random_versions import changed, random_version
+from random_versions import random_chain
 from read_versions import Comparison, Reader, Writer, plain, silence
 from schema_versions import Field, Version, descriptor_pb2, names_of, real_set
 
@@ -317,10 +317,7 @@ class Trial:
     def run(self, pairs: int) -> None:
         """Compares pairs of versions."""
         while pairs > 0:
-            gentle = self.rng.random() < 0.6
-            versions = [random_version(self.rng)]
-            for at in range(min(pairs, self.rng.randint(1, 2))):
-                versions.append(changed(self.rng, versions[-1], gentle, at == 1))
+            versions = random_chain(self.rng, min(pairs, self.rng.randint(1, 2)))
             readers = [Reader(version) for version in versions]
             asked = "full" if len(readers) > 2 else self.rng.choice(["full", "full", *DIRECTIONS])
             steps = []

@@ -381,18 +381,47 @@ WILD: list[Change] = [
 ]  # fmt: skip
 
 
-LATER: list[Change] = [*[add_field] * 3, *[extend] * 2, *[return_message] * 2, take_reserved]
-"""Changes that use again what an earlier one left free."""
+FREEING: list[Change] = [free_field, leave_field, *[reserve_field] * 3, remove_message, reserve_less]
+REUSING: list[Change] = [add_field, take_reserved, extend, return_message]
 
 
-def changed(rng: Random, version: Version, gentle: bool, is_third: bool = False) -> Version:
-    """A version that changes up to five things of another one. A third one uses again what came free,
-    as often as not."""
+def changed(rng: Random, version: Version, gentle: bool) -> Version:
+    """A version that changes up to five things of another one."""
     made = copy.deepcopy(version)
     wild = not gentle and rng.random() < 0.8
     for _ in range(rng.randint(0 if gentle else 1, 5)):
         name = rng.choice([*made.messages, "M", "M", "M"])
         among = WILD if wild and rng.random() < 0.4 else GENTLE
-        rng.choice(LATER if is_third and rng.random() < 0.5 else among)(rng, made, name)
+        rng.choice(among)(rng, made, name)
         mended(made)
     return made
+
+
+def freed(rng: Random, version: Version) -> Version:
+    """A version that takes a field away from another one, or a message."""
+    made = copy.deepcopy(version)
+    rng.choice(FREEING)(rng, made, rng.choice([*made.messages, "M", "M"]))
+    return mended(made)
+
+
+def reused(rng: Random, version: Version) -> Version:
+    """A version that uses again what may have come free in another one."""
+    made = copy.deepcopy(version)
+    for name in list(made.messages):
+        for change in REUSING:
+            if rng.random() < 0.4:
+                change(rng, made, name)
+                mended(made)
+    return made
+
+
+def random_chain(rng: Random, steps: int) -> list[Version]:
+    """Some versions, each of which changes the one before. Some of them use a number or a name again."""
+    versions = [random_version(rng)]
+    if steps > 1 and rng.random() < 0.4:
+        second = freed(rng, versions[0])
+        return [*versions, second, reused(rng, second)]
+    gentle = rng.random() < 0.6
+    for _ in range(steps):
+        versions.append(changed(rng, versions[-1], gentle))
+    return versions

@@ -80,7 +80,7 @@ class ChangesTest(unittest.TestCase):
         self.assertEqual(done.returncode, 0, done.stdout + done.stderr)
 
     def test_kinds(self) -> None:
-        """The rules of a log of SARIF are the kinds of the page, each at its level."""
+        """The rules of a log of SARIF are the kinds of the page, each at its first level."""
         import make_change_rows
 
         page = (HERE.parent / "docs/CHANGES.md").read_text()
@@ -89,7 +89,8 @@ class ChangesTest(unittest.TestCase):
             part = page.split(f"\n### At {level}\n")[1].split("\n## ")[0].split("\n### ")[0]
             for cell in re.findall(r"^\| (`[^|]*) \|", part, re.MULTILINE):
                 codes = re.findall(r"`([a-z-]+)`", cell)
-                found += [(level, code) for code in codes if (level, code) not in found]
+                known = {code for _, code in found}
+                found += [(level, code) for code in codes if code not in known]
         rules = [(level, code) for level, code, _, _ in make_change_rows.RULES]
         self.assertEqual(sorted(found), sorted(rules))
 
