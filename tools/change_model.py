@@ -1,12 +1,12 @@
 #!/usr/bin/env python3
-"""A stand-in for check_descriptors that tells changes by the rules of docs/CHANGES.md.
+"""A stand-in for check_descriptors that reports changes by the rules of docs/CHANGES.md.
 
     python3 change_model.py --against OLD --compatibility full --level source --json NEW
     python3 change_model.py --leave-out field-oneof --against OLD .. NEW
 
-It writes of the object the members that compare_changes.py reads: the changes at wire of messages, and
-of the levels json and source what a missing field may be read otherwise by. So that tool is tried
-without the program, and with one that leaves out a kind of changes.
+It writes of the object the members that compare_changes.py reads: the changes at wire of messages,
+and of the levels json and source what a missing field may be read otherwise by. So that tool is
+tried without the program, and with one that leaves out a kind of changes.
 """
 
 from __future__ import annotations
@@ -32,8 +32,8 @@ FORMS = {BOOL: "truth", STRING: "text", BYTES: "base64", MESSAGE: "object", GROU
 
 @dataclass
 class Entry:
-    """A field or an extension of a message: its record, its full name, and whether its file is one of
-    proto3."""
+    """A field or an extension of a message: its record, its full name, and whether its file is one
+    of proto3."""
 
     record: Any
     name: str
@@ -201,7 +201,8 @@ def keeps_cardinality(one: Any, other: Any) -> bool:
 
 @dataclass
 class Change:
-    """A change: its level, its code, the number of its field, and both places, the reader's first."""
+    """A change: its level, its code, the number of its field, and both places, the reader's
+    first."""
 
     level: str
     code: str
@@ -269,7 +270,8 @@ class Changes:
             after = self.after.entries.get(number)
             if after is None:
                 continue
-            if ("field-kind", number) not in told and not self.has_form(before.record, after.record):
+            is_formed = self.has_form(before.record, after.record)
+            if not is_formed and ("field-kind", number) not in told:
                 yield self.change("field-json", number, "json")
             is_list = {before.record.label == REPEATED, after.record.label == REPEATED}
             if len(is_list) == 2 and ("field-cardinality", number) not in told:

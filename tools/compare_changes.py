@@ -1,34 +1,35 @@
 #!/usr/bin/env python3
-"""Compares what the check tells of two versions of a schema with what protobuf reads of messages.
+"""Compares what the check reports of two versions of a schema with what protobuf reads of messages.
 
     python3 compare_changes.py ../crates/check_descriptors/out/check_descriptors
     python3 compare_changes.py --pairs 200 ../crates/check_descriptors/out/check_descriptors
 
-Random versions are made, by a fixed seed (--seed): two files, each of proto2 or of proto3, with up to
-twenty fields, maps, oneofs, groups, extensions, defaults, enums and reserved numbers. Each is changed
-into a next one, and half of those once more (random_versions.py). What changes of each pair is told
-by `PROGRAM --against OLD --compatibility full --level source --json NEW`, and of some pairs in one
-direction alone. Then the version that writes writes random messages, and protobuf's Python package
-reads them by both versions (read_versions.py).
+Random versions are made, by a fixed seed (--seed): two files, each of proto2 or of proto3, with up
+to twenty fields, maps, oneofs, groups, extensions, defaults, enums and reserved numbers. Each is
+changed into a next one, and half of those once more (random_versions.py). `PROGRAM --against OLD
+--compatibility full --level source --json NEW` reports what changes of each pair, or of some pairs
+one direction alone. The version that writes then writes random messages, and protobuf's Python
+package reads them by both versions (read_versions.py).
 
 What should be, in each direction that is asked for:
 
-- A message is read, if nothing is told of it that loses something, nor of what its fields hold: all
-  that is required is there, and each field that both versions have by its number has the same values.
-- A message is told as gone where it is gone, and nowhere else.
-- A field that is missing is read alike by code, or a change of the field is told at some level, or of
-  the value that its default names.
-- Of three versions of which nothing is told backward at wire, the last one reads what the first one
-  writes.
+- A message is read, if no change is reported that loses something of it, or of what its fields
+  hold. All that is required is there, and each field that both versions have by its number has the
+  same values.
+- A message is reported as gone where it is gone, and nowhere else.
+- Code reads the same of a missing field, or a change of the field is reported at some level, or of
+  the value that its default names, or of the first value of its enum.
+- Take three versions, where nothing is reported backward at wire of each and the one before. The
+  last one reads what the first one writes.
 
-Anything else is printed, and is a fault. Of each change that loses something a message is looked for
-that is refused or read otherwise. It is a fault where none is found, unless the field holds a message
-under another name, which is told also where that frees a number or drops a reservation. Counted, and
-no fault, is `field-default` of a field that is read alike: the default that is given, or was, is what
-is read without it.
+Anything else is printed, and is a fault. For each change that loses something a message is looked
+for that is refused or read otherwise. It is a fault where none is found, unless the field holds a
+message under another name: that is reported also where it frees a number or drops a reservation.
+It is counted, and no fault, where `field-default` is reported of a field that is read alike: the
+default that is given, or was, is what is read without it.
 
-C++ takes an enum as closed by the file of the field, and not by its own. Where that shows, the message
-is read once more by versions in which each open enum is a number, and is counted apart.
+C++ takes an enum as closed by the file of the field, and not by its own. Where that shows, the
+message is read once more by versions in which each open enum is a number, and is counted apart.
 
 The last line counts the messages, the fields and the changes: `N passed, M failed`. Exit status: 0
 where none failed, or protobuf's Python package is missing (python3-protobuf on Debian, for
@@ -59,21 +60,23 @@ MOST_TRIES = 400
 DIRECTIONS = ("backward", "forward")
 FAILED = "failed"
 OF_FIELDS = ("field-kind", "field-cardinality", "field-json", "field-repeated")
-"""The changes of a field, but `field-default`, by which one that is missing may be read otherwise."""
+"""The changes of a field, but `field-default`, by which one that is missing may be read
+otherwise."""
 
 MISSING = {
     "missing alike": "read alike",
-    "default": "told by field-default",
+    "default": "reported by field-default",
     "missing, of the field": "by another change of the field",
     "missing, of the value": "by a change of the value that the default names",
+    "missing, of the number": "by a change of the first value of its enum, which keeps its name",
 }
 """What may come of a missing field, with its words."""
 
 
 @dataclass
 class Told:
-    """A change that is told: its code, its level, what it is at in the new version and in the older
-    one, and the message and the number of the field, where it is one of a field."""
+    """A change that is reported: its code, its level, what it is at in the new version and in the
+    older one, and the message and the number of the field, where it is one of a field."""
 
     code: str
     level: str
@@ -87,7 +90,7 @@ class Told:
 
 
 class Program:
-    """The program that tells changes."""
+    """The program that reports changes."""
 
     def __init__(self, words: list[str], folder: str) -> None:
         self.words = words
@@ -106,7 +109,7 @@ class Program:
         return answer
 
     def told(self, old: Version, new: Version, compatibility: str) -> dict[str, list[Told]]:
-        """What it tells of each direction that is asked for."""
+        """What it reports of each direction that is asked for."""
         answer = self.answer(old, new, compatibility)
         names = [{name: (at, one) for name, at, one in names_of(it)} for it in (new, old)]
         found: dict[str, list[Told]] = {one["direction"]: [] for one in answer["compared"]}
@@ -122,7 +125,7 @@ class Program:
 
 @dataclass
 class Direction:
-    """A direction of a pair of versions: who writes, who reads, and what is told."""
+    """A direction of a pair of versions: who writes, who reads, and what is reported."""
 
     name: str
     old: Reader
@@ -151,7 +154,8 @@ class Direction:
 
 
 def focus(one: Direction, told: Told) -> tuple[str, Optional[set[int]]]:
-    """The message in which a change is looked for, and the numbers of its fields that are written."""
+    """The message in which a change is looked for, and the numbers of its fields that are
+    written."""
     name, number = told.message or "", told.number
     around, _, entry = name.partition(".")
     if entry:
@@ -176,6 +180,12 @@ def is_under_another_name(one: Direction, told: Told) -> bool:
 def missing_of(reader: Reader, name: str, one: Field) -> Any:
     """What code reads of a missing field: a number, bytes, or that there is a list."""
     return "list" if one.is_list() else plain(reader.missing(name, one))
+
+
+def first_of(reader: Reader, one: Field) -> Optional[str]:
+    """The full name of the first value of a field's enum, where no default is given."""
+    enum = reader.version.enums.get(one.kind)
+    return None if enum is None or one.default is not None else f"m.{enum.values[0][0]}"
 
 
 class Trial:
@@ -215,13 +225,13 @@ class Trial:
         return None
 
     def compare_messages(self, one: Direction) -> None:
-        """Compares each message of which nothing is told that loses something."""
+        """Compares each message of which no change is reported that loses something."""
         changed_ones = {told.message for told in one.lossy()}
         for name in one.messages():
             if not one.reached(name) & changed_ones:
                 lost = self.first_lost(one.old, one.new, name)
                 if lost is not None:
-                    self.fail(one, f"nothing is told of {name}, and {lost} is read otherwise")
+                    self.fail(one, f"nothing is reported of {name}, and {lost} is read otherwise")
 
     def is_found(self, one: Direction, told: Told) -> bool:
         """Whether a message is found that is lost by a change."""
@@ -243,19 +253,20 @@ class Trial:
             elif told.code == "field-kind" and is_under_another_name(one, told):
                 self.counts["in vain"] += 1
             else:
-                self.fail(one, f"{told} is told, and no message is found that it loses")
+                self.fail(one, f"{told} is reported, and no message is found that it loses")
 
     def compare_names(self, one: Direction) -> None:
-        """Compares which messages are gone with those that are told."""
+        """Compares which messages are gone with those that are reported."""
         gone = {
             f"m.{name}" for name in one.old.shapes
             if name not in one.new.shapes and not one.old.is_entry(name)
         }  # fmt: skip
         level, at = ("wire", 1) if one.name == "backward" else ("source", 0)
-        told = {it.places[at] for it in one.told if it.code == "message-removed" and it.level == level}
+        ones = [it for it in one.told if (it.code, it.level) == ("message-removed", level)]
+        told = {it.places[at] for it in ones}
         self.counts["gone"] += len(gone)
         if gone != told:
-            self.fail(one, f"{gone} are gone, and {told} are told")
+            self.fail(one, f"{gone} are gone, and {told} are reported")
 
     def compare_missing(self, one: Direction) -> None:
         """Compares what code reads of each field that is missing."""
@@ -267,7 +278,7 @@ class Trial:
                     self.compare_missing_field(one, name, before, after)
 
     def compare_missing_field(self, one: Direction, name: str, before: Field, after: Field) -> None:
-        """Compares what code reads of a missing field with what is told of it."""
+        """Compares what code reads of a missing field with what is reported of it."""
         told = [it.code for it in one.told if (it.message, it.number) == (name, before.number)]
         values = missing_of(one.old, name, before), missing_of(one.new, name, after)
         named = {place for it in one.told if it.code.startswith("value-") for place in it.places}
@@ -280,11 +291,14 @@ class Trial:
             self.counts["missing, of the field"] += 1
         elif f"m.{before.default}" in named:
             self.counts["missing, of the value"] += 1
+        elif first_of(one.old, before) in named:
+            self.counts["missing, of the number"] += 1
         else:
             self.fail(one, f"a missing {before} of {name} is read otherwise: {values}")
 
     def compare_pair(self, old: Reader, new: Reader, compatibility: str) -> list[Direction]:
-        """Compares a pair of versions with what is told of it, in each direction that is asked for."""
+        """Compares a pair of versions with what is reported of it, in each direction that is asked
+        for."""
         found = []
         for direction, told in self.program.told(old.version, new.version, compatibility).items():
             readers = (old, new) if direction == "backward" else (new, old)
@@ -299,7 +313,7 @@ class Trial:
         return found
 
     def compare_chain(self, readers: list[Reader], steps: list[Direction]) -> None:
-        """Compares the first and the last of three versions by what is told of each step."""
+        """Compares the first and the last of three versions by what is reported of each step."""
         codes = {it.code for step in steps for it in step.told if it.level == "wire"}
         if codes & set(LOSSY):
             return
@@ -312,7 +326,7 @@ class Trial:
             return
         self.counts["chains"] += 1
         if lost:
-            self.fail(whole, f"nothing is told of a step, and {lost} is read otherwise")
+            self.fail(whole, f"nothing is reported of a step, and {lost} is read otherwise")
 
     def run(self, pairs: int) -> None:
         """Compares pairs of versions."""
@@ -334,12 +348,12 @@ def lines(counts: Counter[str]) -> Iterator[str]:
     yield f"{counts['directions']} directions, of which {counts['untold']} have no change at wire"
     yield f"{counts['alike'] + counts['as defined']} messages are read as they were written"
     yield f"  {counts['as defined']} of these, but for an open enum in a field of proto2"
-    yield f"{counts['gone']} messages are gone, and told as gone"
+    yield f"{counts['gone']} messages are gone, and reported"
     yield f"{counts['lost']} changes lose something, and a message shows it"
-    yield f"  {counts['in vain']} more are told, and none does: of messages under another name"
-    yield f"{missing} missing fields are read alike, or it is told"
+    yield f"  {counts['in vain']} more are reported, and none does: of messages under another name"
+    yield f"{missing} missing fields are read alike, or it is reported"
     yield "  " + ", ".join(f"{counts[one]} {words}" for one, words in MISSING.items())
-    yield f"  {counts['default in vain']} read alike, and told by field-default"
+    yield f"  {counts['default in vain']} read alike, and reported by field-default"
     yield f"{counts['chains']} chains of three versions have no change at wire in a step"
     yield f"  {counts['weaker chains']} more have, by which a step loses nothing: the whole does"
     yield f"  in {counts['weaker chains, lost']} of them"

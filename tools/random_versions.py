@@ -196,7 +196,9 @@ def add_field(rng: Random, version: Version, name: str) -> None:
     message = version.messages[name]
     taken = {one.number for one in message.all_fields()}
     free = [number for number in range(1, 14) if number not in taken]
-    number = free[0] if rng.random() < 0.5 else max([*(n for n in taken if n < 90), 0]) + 1
+    number = max([*(n for n in taken if n < 90), 0]) + 1
+    if rng.random() < 0.5 and free:
+        number = free[0]
     if number not in taken and not is_in(message.reserved, number):
         message.fields.append(random_field(rng, version, name, number))
 
@@ -381,7 +383,9 @@ WILD: list[Change] = [
 ]  # fmt: skip
 
 
-FREEING: list[Change] = [free_field, leave_field, *[reserve_field] * 3, remove_message, reserve_less]
+FREEING: list[Change] = [
+    free_field, leave_field, *[reserve_field] * 3, remove_message, reserve_less,
+]  # fmt: skip
 REUSING: list[Change] = [add_field, take_reserved, extend, return_message]
 
 
@@ -416,7 +420,7 @@ def reused(rng: Random, version: Version) -> Version:
 
 
 def random_chain(rng: Random, steps: int) -> list[Version]:
-    """Some versions, each of which changes the one before. Some of them use a number or a name again."""
+    """Some versions, each of which changes the one before. Some use a number or a name again."""
     versions = [random_version(rng)]
     if steps > 1 and rng.random() < 0.4:
         second = freed(rng, versions[0])

@@ -1,9 +1,10 @@
 """What protobuf reads of messages by a version of a schema, and messages that are written by one.
 
-protobuf's Python package over C++ reads: it refuses bytes, or tells which values they have. Those are
-seen through the loose file of schema_versions.py: what was read is written again, without what was
-unknown, and that is read as it is. So strings of proto2 that are not UTF-8 are seen, and what is
-missing is told from what is 0. A map is seen as what is left of its entries: of each key the last.
+protobuf's Python package over C++ reads: it refuses bytes, or says which values they have. Those
+are seen through the loose file of schema_versions.py: what was read is written again, without what
+was unknown, and that is read as it is. So strings of proto2 that are not UTF-8 are seen, and what
+is missing is another thing than 0. A map is seen as what is left of its entries: of each key the
+last.
 """
 
 from __future__ import annotations
@@ -43,7 +44,8 @@ EDGES = [0, 1, 2, 3, 5, -1, 2**31 - 1, 2**31, 2**32 - 1, 2**32 + 5, -(2**31), 2*
 
 @contextlib.contextmanager
 def silence() -> Iterator[None]:
-    """Keeps protobuf from telling on the standard error of each text of proto2 that is not UTF-8."""
+    """Keeps protobuf from telling on the standard error of each text of proto2 that is not
+    UTF-8."""
     sys.stderr.flush()
     kept, nothing = os.dup(2), os.open(os.devnull, os.O_WRONLY)
     os.dup2(nothing, 2)
@@ -66,10 +68,12 @@ def classes_of(files: list[Any]) -> dict[str, Any]:
 
 @dataclass
 class Seen:
-    """What was read of bytes: the values as they are, and whether all is there that is required."""
+    """What was read of the bytes of a message with a name: the values as they are, and whether all
+    is there that is required."""
 
+    name: str
     values: Message
-    is_complete: bool
+    is_complete: bool = True
 
 
 class Reader:
@@ -91,9 +95,14 @@ class Reader:
         around, _, entry = name.partition(".")
         return any(one.label == "map" and one.entry() == entry for one in self.shapes[around])
 
+    def has_key(self, name: str) -> bool:
+        """Whether a message has a field that may be a key, at the number of a key."""
+        one = self.numbered[name].get(1)
+        return one is not None and not one.is_list() and self.version.held(name, one) is None
+
     def find_maps(self) -> bool:
-        """Adds the fields of each message that are maps, or hold messages with some. Whether any was
-        added is the result."""
+        """Adds the fields of each message that are maps, or hold messages with some. Whether any
+        was added is the result."""
         found = {
             name: [it for it in them if it.label == "map" or it.kind in self.to_maps]
             for name, them in self.shapes.items()
@@ -103,8 +112,8 @@ class Reader:
         return is_more
 
     def seen(self, classes: dict[str, Any], name: str, made: Message) -> Message:
-        """The values of a message that was read, as they are. protobuf keeps of each key of a map the
-        last entry as soon as one asks for the map."""
+        """The values of a message that was read, as they are. protobuf keeps of each key of a map
+        the last entry as soon as one asks for the map."""
         made.DiscardUnknownFields()
         for one in self.to_maps.get(name, []):
             if one.label == "map":
@@ -142,7 +151,7 @@ class Reader:
             made = classes[name].FromString(data)
         except DecodeError:
             return None
-        return Seen(self.seen(classes, name, made), made.IsInitialized())
+        return Seen(name, self.seen(classes, name, made), made.IsInitialized())
 
     def value_of(self, made: Message, one: Field) -> Any:
         """What code reads of a field or an extension of a message."""
@@ -234,8 +243,8 @@ class Writer:
             self.fill_inner(one.kind, item, level)
             return
         if self.rng.random() < 0.9:
-            values = [self.scalar(name, one.key) for _ in range(1 if self.rng.random() < 0.5 else 0)]
-            item.f1 = values[0] if values else self.usual_key(one.key)
+            is_usual = self.rng.random() < 0.5
+            item.f1 = self.usual_key(one.key) if is_usual else self.scalar(name, one.key)
         if one.kind in self.version.messages:
             self.fill_inner(one.kind, item.f2, level)
         elif self.rng.random() < 0.9:
@@ -247,8 +256,9 @@ class Writer:
         return [b"", b"k"][at] if kind == "string" else at
 
     def write(self, name: str, only: Optional[set[int]] = None) -> bytes:
-        """What is written of a random message, or of its fields with some numbers and those that are
-        required: whole, or in two parts, of which the second has no other member of a oneof."""
+        """What is written of a random message, or of its fields with some numbers and those that
+        are required: whole, or in two parts, of which the second has no other member of a
+        oneof."""
         loose, self.is_again = self.reader.loose_class(name), False
         first = self.fill(name, loose(), 0, self.asked(name, only))
         made = first.SerializePartialToString()
@@ -291,30 +301,27 @@ class Comparison:
         self.old = old
         self.new = new
 
-    def are_alike(
-        self, name: str, one: Message, other: str, two: Message, only: Optional[set[int]] = None
-    ) -> bool:
+    def are_alike(self, one: Seen, two: Seen, only: Optional[set[int]] = None) -> bool:
         """Whether each field that two messages have by its number has the same values, or each of
         those with some numbers."""
-        news = self.new.numbered[other]
+        news = self.new.numbered[two.name]
         return all(
-            self.is_field_alike(name, one, before, other, two, news[before.number])
-            for before in self.old.shapes[name]
+            self.is_field_alike(one, before, two, news[before.number])
+            for before in self.old.shapes[one.name]
             if before.number in news and (only is None or before.number in only)
         )
 
-    def is_field_alike(
-        self, name: str, one: Message, before: Field, other: str, two: Message, after: Field
-    ) -> bool:
+    def is_field_alike(self, one: Seen, before: Field, two: Seen, after: Field) -> bool:
         """Whether a field has the same values in both messages. Of one that was not repeated and is
         now, the last value counts."""
-        olds, news = values_of(one, before), values_of(two, after)
-        held, holds = self.old.version.held(name, before), self.new.version.held(other, after)
+        olds, news = values_of(one.values, before), values_of(two.values, after)
+        held = self.old.version.held(one.name, before)
+        holds = self.new.version.held(two.name, after)
         if held is not None and holds is not None:
-            if "map" in (before.label, after.label):
-                return self.are_maps_alike(held, olds, holds, news)
-            pairs = zip(olds, news)
-            return len(olds) == len(news) and all(self.are_alike(held, a, holds, b) for a, b in pairs)
+            inner = [Seen(held, it) for it in olds], [Seen(holds, it) for it in news]
+            is_map = "map" in (before.label, after.label)
+            is_map = is_map and self.old.has_key(held) and self.new.has_key(holds)
+            return self.are_maps_alike(*inner) if is_map else self.are_lists_alike(*inner)
         if held is not None or holds is not None:
             return not olds and not news
         if after.is_list() and not before.is_list():
@@ -323,12 +330,16 @@ class Comparison:
             olds, news = ([v for v in them if not is_zero(v)] for them in (olds, news))
         return [plain(value) for value in olds] == [plain(value) for value in news]
 
-    def are_maps_alike(self, held: str, olds: list[Any], holds: str, news: list[Any]) -> bool:
+    def are_lists_alike(self, olds: list[Seen], news: list[Seen]) -> bool:
+        """Whether two lists of messages are the same."""
+        return len(olds) == len(news) and all(map(self.are_alike, olds, news))
+
+    def are_maps_alike(self, olds: list[Seen], news: list[Seen]) -> bool:
         """Whether two lists of entries have the same values by the same keys."""
-        found = {plain(entry.f1): entry for entry in news}
+        found = {plain(entry.values.f1): entry for entry in news}
         return len(olds) == len(news) and all(
-            plain(entry.f1) in found
-            and self.are_alike(held, entry, holds, found[plain(entry.f1)], {2})
+            plain(entry.values.f1) in found
+            and self.are_alike(entry, found[plain(entry.values.f1)], {2})
             for entry in olds
         )
 
@@ -337,18 +348,18 @@ class Comparison:
         one, or read otherwise."""
         old, new = self.old.read(name, data), self.new.read(name, data)
         assert old is not None, f"a writer's own message is refused: {name} {data.hex()}"
-        return new is None or not self.are_alike(name, old.values, name, new.values, only)
+        return new is None or not self.are_alike(old, new, only)
 
     def is_kept_as_defined(
         self, name: str, data: bytes, only: Optional[set[int]] = None
     ) -> bool:
-        """Whether bytes are read as they were written, where enums of proto3 are open also in fields
-        of proto2."""
+        """Whether bytes are read as they were written, where enums of proto3 are open also in
+        fields of proto2."""
         old, new = self.old.read_as_defined(name, data), self.new.read_as_defined(name, data)
         assert old is not None
         if new is None or not (new.is_complete or only is not None):
             return False
-        return self.are_alike(name, old.values, name, new.values, only)
+        return self.are_alike(old, new, only)
 
     def is_lost_either_way(self, name: str, data: bytes, only: Optional[set[int]]) -> bool:
         """Whether bytes are refused or read otherwise, by C++ or by the definitions."""

@@ -55,9 +55,9 @@ Range = tuple[int, int]
 
 @dataclass
 class Field:
-    """A field or an extension. Its kind is the name of a scalar, of an enum or of a message; that of a
-    map the kind of its values. A plain one is one of proto3 without presence. One of entries is
-    repeated and holds messages under the name that the entries of a map would have."""
+    """A field or an extension. Its kind is the name of a scalar, of an enum or of a message; that
+    of a map the kind of its values. A plain one is one of proto3 without presence. One of entries
+    is repeated and holds messages under the name that the entries of a map would have."""
 
     name: str
     number: int
@@ -232,8 +232,8 @@ def mend_ranges(version: Version, message: Message) -> None:
 
 
 def mend_required(version: Version, message: Message) -> None:
-    """Lets no extension be required, nor a field whose message holds messages, so that a message with
-    all that is required can be written."""
+    """Lets no extension be required, nor a field whose message holds messages, so that a message
+    with all that is required can be written."""
     for one in message.all_fields():
         held = version.messages.get(one.kind)
         is_deep = held is not None and any(it.kind in version.messages for it in held.all_fields())
@@ -243,7 +243,8 @@ def mend_required(version: Version, message: Message) -> None:
 
 
 def mended(version: Version) -> Version:
-    """The version, in which all stands that protobuf accepts, and as little as that takes is changed."""
+    """The version, in which all stands that protobuf accepts, and as little as that takes is
+    changed."""
     for enum in version.enums.values():
         mend_enum(version, enum)
     for message in version.messages.values():
@@ -256,97 +257,103 @@ def mended(version: Version) -> Version:
     return version
 
 
-def type_of(version: Version, record: Any, one: Field, open_as_numbers: bool) -> None:
-    """Gives the record of a field its type. Enums of proto3 may be numbers."""
-    if one.kind in version.enums and open_as_numbers and version.is_open(one.kind):
-        record.type = TYPES["int32"]
-    elif one.kind in version.enums:
-        record.type, record.type_name = TYPES["enum"], f".m.{one.kind}"
-    elif one.kind in version.messages:
-        record.type = TYPES["group" if one.group else "message"]
-        record.type_name = f".m.{one.kind}"
-    else:
-        record.type = TYPES[one.kind]
+class RealFiles:
+    """The records of the files of a version. Enums of proto3 may be numbers in them."""
 
+    def __init__(self, version: Version, open_as_numbers: bool) -> None:
+        self.version = version
+        self.open_as_numbers = open_as_numbers
 
-def add_entry(version: Version, around: Any, one: Field, open_as_numbers: bool) -> None:
-    """Gives a message the entry that one of its fields holds."""
-    entry = around.nested_type.add(name=one.entry())
-    if one.label == "map":
-        entry.options.map_entry = True
-    for part in version.entry_fields(around.name, one):
-        type_of(version, entry.field.add(name=part.name, number=part.number, label=1), part,
-                open_as_numbers)
+    def type_of(self, record: Any, one: Field) -> None:
+        """Gives the record of a field its type."""
+        is_enum = one.kind in self.version.enums
+        if is_enum and self.open_as_numbers and self.version.is_open(one.kind):
+            record.type = TYPES["int32"]
+        elif is_enum:
+            record.type, record.type_name = TYPES["enum"], f".m.{one.kind}"
+        elif one.kind in self.version.messages:
+            record.type = TYPES["group" if one.group else "message"]
+            record.type_name = f".m.{one.kind}"
+        else:
+            record.type = TYPES[one.kind]
 
+    def add_entry(self, around: Any, one: Field) -> None:
+        """Gives a message the entry that one of its fields holds."""
+        entry = around.nested_type.add(name=one.entry())
+        if one.label == "map":
+            entry.options.map_entry = True
+        for part in self.version.entry_fields(around.name, one):
+            self.type_of(entry.field.add(name=part.name, number=part.number, label=1), part)
 
-def add_field(version: Version, around: Any, record: Any, one: Field, open_as_numbers: bool) -> None:
-    """Fills the record of a field or an extension, whose entry stands in a message."""
-    record.name, record.number, record.label = one.name, one.number, LABELS[one.label]
-    if one.entry() is not None:
-        add_entry(version, around, one, open_as_numbers)
-        record.type, record.type_name = TYPES["message"], f".m.{around.name}.{one.entry()}"
-        return
-    type_of(version, record, one, open_as_numbers)
-    if one.default is not None and not open_as_numbers:
-        record.default_value = one.default
-    if one.packed is not None:
-        record.options.packed = one.packed
+    def add_field(self, around: Any, record: Any, one: Field) -> None:
+        """Fills the record of a field or an extension, whose entry stands in a message."""
+        record.name, record.number, record.label = one.name, one.number, LABELS[one.label]
+        if one.entry() is not None:
+            self.add_entry(around, one)
+            record.type, record.type_name = TYPES["message"], f".m.{around.name}.{one.entry()}"
+            return
+        self.type_of(record, one)
+        if one.default is not None and not self.open_as_numbers:
+            record.default_value = one.default
+        if one.packed is not None:
+            record.options.packed = one.packed
 
+    def add_oneofs(self, record: Any, message: Message) -> None:
+        """Gives the record of a message its oneofs, those for the presence of one field last."""
+        names: list[str] = []
+        for one, made in zip(message.fields, record.field):
+            if one.oneof is not None:
+                names += [] if one.oneof in names else [one.oneof]
+                made.oneof_index = names.index(one.oneof)
+        is_proto3 = self.version.is_proto3(message.file)
+        for one, made in zip(message.fields, record.field):
+            if one.oneof is None and one.label == "optional" and is_proto3:
+                made.proto3_optional, made.oneof_index = True, len(names)
+                names.append(f"_{one.name}")
+        for name in names:
+            record.oneof_decl.add(name=name)
 
-def add_oneofs(version: Version, record: Any, message: Message) -> None:
-    """Gives the record of a message its oneofs, those for the presence of one field last."""
-    names: list[str] = []
-    for one, made in zip(message.fields, record.field):
-        if one.oneof is not None:
-            names += [] if one.oneof in names else [one.oneof]
-            made.oneof_index = names.index(one.oneof)
-    for one, made in zip(message.fields, record.field):
-        if one.oneof is None and one.label == "optional" and version.is_proto3(message.file):
-            made.proto3_optional, made.oneof_index = True, len(names)
-            names.append(f"_{one.name}")
-    for name in names:
-        record.oneof_decl.add(name=name)
+    def add_message(self, file: Any, name: str) -> None:
+        """Gives the record of a file a message, with the extensions of it."""
+        message = self.version.messages[name]
+        record = file.message_type.add(name=name)
+        for one in message.fields:
+            self.add_field(record, record.field.add(), one)
+        self.add_oneofs(record, message)
+        for start, end in message.reserved:
+            record.reserved_range.add(start=start, end=end)
+        for start, end in message.left:
+            record.extension_range.add(start=start, end=end)
+        for one in message.extensions:
+            self.add_field(record, file.extension.add(extendee=f".m.{name}"), one)
 
+    def add_enum(self, file: Any, name: str) -> None:
+        """Gives the record of a file an enum."""
+        enum = self.version.enums[name]
+        record = file.enum_type.add(name=name)
+        if len(set(enum.numbers())) < len(enum.values):
+            record.options.allow_alias = True
+        for value, number in enum.values:
+            record.value.add(name=value, number=number)
 
-def add_message(version: Version, file: Any, name: str, open_as_numbers: bool) -> None:
-    """Gives the record of a file a message, with the extensions of it."""
-    message = version.messages[name]
-    record = file.message_type.add(name=name)
-    for one in message.fields:
-        add_field(version, record, record.field.add(), one, open_as_numbers)
-    add_oneofs(version, record, message)
-    for start, end in message.reserved:
-        record.reserved_range.add(start=start, end=end)
-    for start, end in message.left:
-        record.extension_range.add(start=start, end=end)
-    for one in message.extensions:
-        made = file.extension.add(extendee=f".m.{name}")
-        add_field(version, record, made, one, open_as_numbers)
+    def made(self) -> Any:
+        """The set of both files."""
+        made = descriptor_pb2.FileDescriptorSet()
+        for name in (LOW, TOP):
+            file = made.file.add(name=name, package="m", syntax=self.version.syntaxes[name])
+            file.dependency.extend([LOW] if name == TOP else [])
+            for enum, one in self.version.enums.items():
+                if one.file == name:
+                    self.add_enum(file, enum)
+            for message, it in self.version.messages.items():
+                if it.file == name:
+                    self.add_message(file, message)
+        return made
 
 
 def real_set(version: Version, open_as_numbers: bool = False) -> Any:
     """The set of the files of a version. Enums of proto3 may be numbers in it."""
-    made = descriptor_pb2.FileDescriptorSet()
-    for name in (LOW, TOP):
-        file = made.file.add(name=name, package="m", syntax=version.syntaxes[name])
-        if name == TOP:
-            file.dependency.append(LOW)
-        for enum, one in version.enums.items():
-            if one.file == name:
-                add_enum(file, enum, one)
-        for message, it in version.messages.items():
-            if it.file == name:
-                add_message(version, file, message, open_as_numbers)
-    return made
-
-
-def add_enum(file: Any, name: str, enum: Enum) -> None:
-    """Gives the record of a file an enum."""
-    record = file.enum_type.add(name=name)
-    if len(set(enum.numbers())) < len(enum.values):
-        record.options.allow_alias = True
-    for value, number in enum.values:
-        record.value.add(name=value, number=number)
+    return RealFiles(version, open_as_numbers).made()
 
 
 def loose_name(name: str) -> str:

@@ -27,7 +27,7 @@ MOST_PAIRS = 600
 
 
 def first_fault(left_out: str) -> int:
-    """After how many pairs a fault shows where a kind of changes is not told."""
+    """After how many pairs a fault shows where a kind of changes is not reported."""
     import change_model
     import compare_changes
     from schema_versions import Version, real_set
