@@ -17,8 +17,7 @@ What should be, in each direction that is asked for:
   hold. All that is required is there, and each field that both versions have by its number has the
   same values.
 - A message is reported as gone where it is gone, and nowhere else.
-- Code reads the same of a missing field, or a change of the field is reported at some level, or of
-  the value that its default names, or of the first value of its enum.
+- Code reads the same of a missing field, or a change of the field is reported at some level.
 - Take three versions, where nothing is reported backward at wire of each and the one before. The
   last one reads what the first one writes.
 
@@ -67,8 +66,6 @@ MISSING = {
     "missing alike": "read alike",
     "default": "reported by field-default",
     "missing, of the field": "by another change of the field",
-    "missing, of the value": "by a change of the value that the default names",
-    "missing, of the number": "by a change of the first value of its enum, which keeps its name",
 }
 """What may come of a missing field, with its words."""
 
@@ -182,12 +179,6 @@ def missing_of(reader: Reader, name: str, one: Field) -> Any:
     return "list" if one.is_list() else plain(reader.missing(name, one))
 
 
-def first_of(reader: Reader, one: Field) -> Optional[str]:
-    """The full name of the first value of a field's enum, where no default is given."""
-    enum = reader.version.enums.get(one.kind)
-    return None if enum is None or one.default is not None else f"m.{enum.values[0][0]}"
-
-
 class Trial:
     """Random versions, and what came of them."""
 
@@ -281,7 +272,6 @@ class Trial:
         """Compares what code reads of a missing field with what is reported of it."""
         told = [it.code for it in one.told if (it.message, it.number) == (name, before.number)]
         values = missing_of(one.old, name, before), missing_of(one.new, name, after)
-        named = {place for it in one.told if it.code.startswith("value-") for place in it.places}
         if values[0] == values[1]:
             self.counts["default in vain"] += "field-default" in told
             self.counts["missing alike"] += 1
@@ -289,10 +279,6 @@ class Trial:
             self.counts["default"] += 1
         elif set(told) & set(OF_FIELDS):
             self.counts["missing, of the field"] += 1
-        elif f"m.{before.default}" in named:
-            self.counts["missing, of the value"] += 1
-        elif first_of(one.old, before) in named:
-            self.counts["missing, of the number"] += 1
         else:
             self.fail(one, f"a missing {before} of {name} is read otherwise: {values}")
 

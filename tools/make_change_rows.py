@@ -1140,7 +1140,24 @@ at_level(
     "source-default-by-the-first-value",
     FIRST,
     FIRST.replace("  A = 1;\n  B = 2;\n", "  B = 2;\n  A = 1;\n"),
-    source("field-default", "first value m.A", "first value m.B", MISSING),
+    source("field-default", "first value m.A = 1", "first value m.B = 2", MISSING),
+)
+at_level(
+    "source",
+    "source-default-by-the-number-of-the-first-value",
+    FIRST,
+    FIRST.replace("  A = 1;\n  B = 2;\n", "  A = 2;\n  B = 1;\n"),
+    Change("value-name", "'m.B': name m.A became name m.B", ALIAS, "m.B", "m.A", "json"),
+    Change("value-name", "'m.A': name m.B became name m.A", ALIAS, "m.A", "m.B", "json"),
+    source("field-default", "first value m.A = 1", "first value m.A = 2", MISSING),
+)
+at_level(
+    "source",
+    "source-default-by-the-number-of-its-value",
+    FIRST.replace("a = 1;", "a = 1 [default = B];"),
+    FIRST.replace("a = 1;", "a = 1 [default = B];").replace("  B = 2;\n", "  C = 2;\n  B = 3;\n"),
+    Change("value-name", "'m.C': name m.B became name m.C", ALIAS, "m.C", "m.B", "json"),
+    source("field-default", "default value B = 2", "default value B = 3", MISSING),
 )
 at_level(
     "source",

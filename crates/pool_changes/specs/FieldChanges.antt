@@ -15,7 +15,7 @@ use Rattle.schema_changes.specs.declared.change.WireChangeKind.TheVariants as ch
 use Rattle.verdict_texts.specs.declared.telling.ToldFault.{ToldFault}
 use Rattle.pool_changes.specs.FieldParts.{Part, field_part, part_numbered, form_side, json_side}
 use Rattle.pool_changes.specs.FieldParts.{json_word, type_word, type_name, repeated_side, name_side}
-use Rattle.pool_changes.specs.FieldParts.{type_side, presence_side, default_side, default_text}
+use Rattle.pool_changes.specs.FieldParts.{type_side, presence_side, default_side}
 use Rattle.pool_changes.specs.FieldParts.{first_number, oneof_side}
 use Rattle.pool_changes.specs.Removed.{tells}
 use Rattle.pool_changes.specs.Sides.{Versions, writer, reader, differing, told_between}
@@ -127,7 +127,7 @@ oneof_moves v x y found f g = if tells v.direction found f.entry.number change.O
 -- the reader's is repeated, or the first numbers of their kinds are one
 abbrev pub have_first_alike : Versions → Part → Part → Bool
 have_first_alike v f g =
-    is_none (default_text (writer v) f) && is_none (default_text (reader v) g)
+    is_none f.default && is_none g.default
     && (is_repeated g.entry.cardinality
     || int_eq (first_number (writer v) f.entry.kind) (first_number (reader v) g.entry.kind))
 

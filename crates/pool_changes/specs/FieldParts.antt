@@ -1,8 +1,9 @@
 -- A field or an extension of a message, as JSON and code that is made of the schema have it.
-use Rattle.std.specs.Prelude.{ℕ, ℤ, pos, Bool, true, false, List, [], codes, is_some, unwrap_or}
+use Rattle.std.specs.Prelude.{ℕ, ℤ, pos, Bool, true, false, List, [], ◌++◌, codes, is_some, unwrap_or}
 use Rattle.std.specs.Prelude.{slice_get, option_map, option_and_then, Option, Some, None}
 use Rattle.std.specs.Prelude.{if◌then◌else◌}
 use Rattle.std.specs.FinMap as finite
+use Rattle.std.specs.Fmt.{signed_decimal}
 use Rattle.std.specs.Option.{option_or, option_map_or}
 use Rattle.pool_types.specs.Contents.{Contents}
 use Rattle.pool_types.specs.Kinds.{kind_name}
@@ -13,6 +14,8 @@ use Rattle.pool_types.specs.declared.contents.extension.ExtensionDescriptorInner
 use Rattle.pool_types.specs.declared.contents.field.FieldDescriptorInner.{FieldDescriptorInner}
 use Rattle.pool_types.specs.declared.contents.message.MessageDescriptorInner.{MessageDescriptorInner}
 use Rattle.pool_types.specs.declared.contents.oneof.OneofDescriptorInner.{OneofDescriptorInner}
+use Rattle.pool_types.specs.declared.default_value.DefaultValue.{DefaultValue}
+use Rattle.pool_types.specs.declared.default_value.DefaultValue.TheVariants as value
 use Rattle.pool_types.specs.declared.kinds.Cardinality.{Cardinality}
 use Rattle.pool_types.specs.declared.kinds.Cardinality.TheVariants as cardinality
 use Rattle.pool_types.specs.declared.kinds.KindIndex.{KindIndex}
@@ -26,13 +29,14 @@ use Rattle.pool_changes.specs.Sides.{Side, there}
 use Rattle.pool_changes.specs.Words.{message_name, enum_name}
 use Rattle.pool_changes.specs.declared.fields.Part as lent
 
--- a field or an extension: what bytes are read by, its JSON name, and whether a message tells that
--- it is set
+-- a field or an extension: what bytes are read by, its JSON name, whether a message tells that it is
+-- set, and the default value that it is given
 pub record Part : Type 0 where
   pub id : Identity
   pub entry : Entry
   pub json_name : List ℕ
   pub has_presence : Bool
+  pub default : Option DefaultValue
 
 -- the part that is lent to the code
 abbrev pub part : lent.Part → Part
@@ -41,6 +45,7 @@ part x = record {
   entry = x.entry;
   json_name = x.json_name.now;
   has_presence = x.has_presence;
+  default = x.default.now;
 }
 
 -- a field; its full name stands for a JSON name that was not given
@@ -50,6 +55,7 @@ field_part f = record {
   entry = field_entry f;
   json_name = unwrap_or f.json_name f.id.full_name;
   has_presence = f.supports_presence;
+  default = f.default;
 }
 
 -- an extension
@@ -59,6 +65,7 @@ extension_part x = record {
   entry = extension_entry x;
   json_name = x.json_name;
   has_presence = true;
+  default = x.default;
 }
 
 -- the extension with an index
@@ -163,18 +170,27 @@ first_value p _ = None
 abbrev pub first_number : Contents → KindIndex → ℤ
 first_number p k = option_map_or (λ x. x.number) (first_value p k) (pos 0)
 
+-- a value of an enum, by its name and its number
+abbrev pub value_shown : List ℕ → ℤ → List ℕ
+value_shown name number = name ++ (codes " = " ++ signed_decimal number)
+
 -- what a missing field is read as where no default value is given, as a side
 abbrev pub first_side : Part → Option EnumValueDescriptorInner → Side
-first_side f (Some x) = there f.id (codes "first value ") x.id.full_name
+first_side f (Some x) = there f.id (codes "first value ") (value_shown x.id.full_name x.number)
 first_side f None = there f.id (codes "no default value") []
 
--- the default value that a record gives
+-- a default value by the text that its record gives, with the number of a value of an enum
+abbrev pub default_shown : Option DefaultValue → List ℕ → List ℕ
+default_shown (Some (value.EnumNumber number)) text = value_shown text number
+default_shown _ text = text
+
+-- the text that a record gives for a default value
 abbrev pub default_text : Contents → Part → Option (List ℕ)
 default_text p f = option_and_then (λ r. r.default_value) (field_record p f.id)
 
 -- a default value that is given, or what is read without one, as a side
 abbrev pub given_default : Contents → Part → Option (List ℕ) → Side
-given_default p f (Some text) = there f.id (codes "default value ") text
+given_default p f (Some text) = there f.id (codes "default value ") (default_shown f.default text)
 given_default p f None = first_side f (first_value p f.entry.kind)
 
 -- what a missing field is read as, as a side

@@ -128,8 +128,8 @@ impl Telling<'_> {
         ensures { result ≡ spec.have_first_alike (versions self.entry) (part field.entry)
             (part kept.entry) }
     {
-        field.default_text(self.writer()).is_none()
-            && kept.default_text(self.reader()).is_none()
+        field.default.is_none()
+            && kept.default.is_none()
             && (kept.entry.cardinality == Cardinality::Repeated
                 || first_number(self.writer(), field.entry.kind)
                     == first_number(self.reader(), kept.entry.kind))

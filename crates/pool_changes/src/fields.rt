@@ -1,6 +1,6 @@
 //! A field or an extension of a message, as JSON and code that is made of the schema have it.
 
-ghost use Rattle.std.specs.Prelude.{◌≡◌, is_some, option_map, option_and_then, unwrap_or};
+ghost use Rattle.std.specs.Prelude.{◌≡◌, IfOk, is_some, option_map, option_and_then, unwrap_or};
 ghost use Rattle.std.specs.Prelude.{slice_get};
 ghost use Rattle.std.specs.Option.{option_copied};
 ghost use Rattle.schema_changes.specs.MapEntries.{map_entry_at};
@@ -16,10 +16,11 @@ use crate::words::{enum_name, message_name};
 use descriptor_pool::DescriptorPool;
 use plain_data::Text;
 use pool_types::{
-    Cardinality, EnumValueDescriptorInner, ExtensionDescriptorInner, FieldDescriptorInner,
-    Identity, KindIndex, MessageDescriptorInner, OneofDescriptorInner,
+    Cardinality, DefaultValue, EnumValueDescriptorInner, ExtensionDescriptorInner,
+    FieldDescriptorInner, Identity, KindIndex, MessageDescriptorInner, OneofDescriptorInner,
 };
 use schema_changes::{Entry, extension_entry, field_entry};
+use std::alloc::{AllocError, Global};
 
 /// A field or an extension of a message.
 #[derive(Clone, Copy)]
@@ -30,6 +31,8 @@ pub(crate) struct Part<'a> {
     pub json_name: &'a str,
     /// Whether a message tells that it is set.
     pub has_presence: bool,
+    /// The default value that it is given.
+    pub default: &'a Option<DefaultValue>,
 }
 
 /// The JSON name of a field that was given one, or else its full name.
@@ -51,6 +54,7 @@ pub(crate) fn field_part(field: &FieldDescriptorInner) -> Part<'_>
         entry: field_entry(field),
         json_name: json_name(field),
         has_presence: field.supports_presence,
+        default: &field.default,
     }
 }
 
@@ -63,6 +67,7 @@ pub(crate) fn extension_part(extension: &ExtensionDescriptorInner) -> Part<'_>
         entry: extension_entry(extension),
         json_name: extension.json_name.as_str(),
         has_presence: true,
+        default: &extension.default,
     }
 }
 
@@ -237,33 +242,43 @@ impl<'a> Part<'a> {
         Side::there(self.id, word, "")
     }
 
-    /// What it is read as where it is missing, and no default value is given, as a side.
-    fn first(self, pool: &'a DescriptorPool) -> Side<'a>
-        ensures { side result ≡ spec.first_side (spec.part self.entry)
-            (spec.first_value pool.now (spec.part self.entry).entry.kind) }
-    {
-        match first_value(pool, self.entry.kind) {
-            Some(value) => Side::there(self.id, "first value ", value.id.full_name()),
-            None => Side::there(self.id, "no default value", ""),
-        }
-    }
-
-    /// The default value that its record gives, if it gives one.
-    pub(crate) fn default_text(self, pool: &'a DescriptorPool) -> Option<&'a Text>
-        ensures { option_copied result ≡ option_and_then (λ r. r.default_value)
-            (field_record pool.now (spec.part self.entry).id) }
+    /// The text that its record gives for a default value.
+    fn default_text(self, pool: &'a DescriptorPool) -> Option<&'a Text>
+        ensures { option_copied result ≡ spec.default_text pool.now (spec.part self.entry) }
     {
         let record = field_record(pool, self.id)?;
         record.default_value.as_ref()
     }
 
-    /// What it is read as where it is missing, as a side.
-    pub(crate) fn default(self, pool: &'a DescriptorPool) -> Side<'a>
-        ensures { side result ≡ spec.default_side pool.now (spec.part self.entry) }
+    /// A default value by the text that its record gives, with the number of a value of an enum.
+    fn default_shown(self, alloc: Global, text: &Text) -> Result<Text, AllocError>
+        ensures { IfOk result (λ shown. shown
+            ≡ spec.default_shown (spec.part self.entry).default text.now) }
     {
-        match self.default_text(pool) {
-            Some(text) => Side::there(self.id, "default value ", text.as_str()),
-            None => self.first(pool),
+        match self.default {
+            Some(DefaultValue::EnumNumber(number)) => value_shown(alloc, text, *number),
+            _ => text.clone(alloc),
+        }
+    }
+
+    /// What it is read as where it is missing: a word, and the value that is shown.
+    pub(crate) fn read_as(
+        self,
+        alloc: Global,
+        pool: &DescriptorPool,
+    ) -> Result<(&'static str, Text), AllocError>
+        ensures { IfOk result (λ shown. spec.there (spec.part self.entry).id shown.0.now shown.1
+            ≡ spec.default_side pool.now (spec.part self.entry)) }
+    {
+        if let Some(text) = self.default_text(pool) {
+            return Ok(("default value ", self.default_shown(alloc, text)?));
+        }
+        match first_value(pool, self.entry.kind) {
+            Some(value) => {
+                let shown = value_shown(alloc, &value.id.full_name, value.number)?;
+                Ok(("first value ", shown))
+            }
+            None => Ok(("no default value", Text::new(alloc))),
         }
     }
 
@@ -280,6 +295,14 @@ impl<'a> Part<'a> {
             None => Side::there(self.id, "part of no oneof", ""),
         }
     }
+}
+
+/// A value of an enum, by its name and its number.
+fn value_shown(alloc: Global, name: &Text, number: i32) -> Result<Text, AllocError>
+    ensures { IfOk result (λ shown. shown ≡ spec.value_shown name.now number) }
+{
+    let name = name.as_str();
+    Ok(Text::from_string(format!(in alloc; "{name} = {number}")?))
 }
 
 /// The first value of the enum with an index.

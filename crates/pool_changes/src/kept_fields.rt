@@ -10,7 +10,7 @@ ghost use Rattle.pool_changes.specs.Sides.{versions};
 use crate::fields::{Part, field_part, json_word, part_numbered, type_name};
 use crate::kinds::ElementChange;
 use crate::removed::{Kept, tells};
-use crate::sides::Telling;
+use crate::sides::{Side, Telling};
 use plain_data::Items;
 use pool_types::{Cardinality, FieldDescriptorInner, KindIndex, MessageDescriptorInner};
 use schema_changes::{WireChangeKind, messages_of};
@@ -277,9 +277,11 @@ impl Telling<'_> {
         if self.has_first_of(pair.before, pair.after) {
             return Ok(());
         }
-        let before = pair.before.default(self.writer());
-        let after = pair.after.default(self.reader());
-        self.tell_differing(told, ElementChange::FieldDefault.between(before, after))
+        let before = pair.before.read_as(self.alloc, self.writer())?;
+        let after = pair.after.read_as(self.alloc, self.reader())?;
+        let written = Side::there(pair.before.id, before.0, before.1.as_str());
+        let read = Side::there(pair.after.id, after.0, after.1.as_str());
+        self.tell_differing(told, ElementChange::FieldDefault.between(written, read))
     }
 
     /// Appends what changes of it at source: its name, its type, its presence, its oneof, and its
