@@ -1,16 +1,13 @@
-//! Three examples: a caller of the pool, which links a file that is built by hand; a descriptor
-//! set, from its bytes to a pool and back; and a set that is checked, with the pool that is loaded
-//! from the set of its linked files. `data/well_known.pb` is what `protoc` says of protobuf's
+//! Two examples: a caller of the pool, which links a file that is built by hand; and a descriptor
+//! set, from its bytes to a pool and back. `data/well_known.pb` is what `protoc` says of protobuf's
 //! own well-known files, as `tools/well_known.py` stores it.
 #![tactic(auto)]
 
-mod checked;
 mod depot;
 mod linking;
 mod sets;
 mod shop;
 
-use checked::tell_checked;
 use linking::tell_linking;
 use sets::{tell_refused, tell_set};
 use std::{fs, io};
@@ -22,6 +19,5 @@ fn main(rt: HostRuntime) -> io::Result<()> {
     tell_refused(alloc, &mut report)?;
     let bytes = fs::read(&rt, "well_known.pb")?;
     tell_set(alloc, &mut report, bytes.as_slice())?;
-    tell_checked(alloc, &mut report)?;
     print!(rt; "{report}")
 }

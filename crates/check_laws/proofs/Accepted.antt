@@ -14,7 +14,7 @@ use Rattle.descriptor_encoding.specs.Whole.{IsFile, IsSet, Within}
 use Rattle.descriptor_pool.specs.Build.{first_of_both}
 use Rattle.descriptor_pool.specs.Outcome.{IsLinked}
 use Rattle.descriptor_pool.specs.Pool.{Batch, counts_after, faults, faults_of_names, faults_of_references, link}
-use Rattle.stored_pools.specs.Stored.{AreWhole, LinkedIsLoaded, MakesPool}
+use Rattle.stored_pools.specs.Stored.{AreWhole, LinkedIsLoaded}
 use Rattle.descriptor_check.specs.Answers.{accepted_unless, answer, answer_for, linked_answer, passed_over, set_for, verdict_answer, with_complaints}
 use Rattle.descriptor_check.specs.Batches.{batch_of}
 use Rattle.descriptor_check.specs.Described.{unknown_names}
@@ -28,8 +28,8 @@ use Rattle.descriptor_check.specs.declared.batches.NotASet.{NotASet}
 use Rattle.descriptor_check.specs.declared.inputs.Input.{Input}
 use Rattle.descriptor_check.specs.declared.verdicts.Verdict.{Verdict}
 use Rattle.descriptor_check.specs.declared.verdicts.Verdict.TheVariants.{Accepted, Refused, TooMany, Unequal}
-use Rattle.example_pool.specs.Checked.{AcceptedAs, CheckedIsLoaded, IsLoadedAs}
-use Rattle.example_pool.proofs.Whole.{batch-all}
+use Rattle.check_laws.specs.Checked.{CheckedIsLoaded, IsLoadedAs}
+use Rattle.check_laws.proofs.Whole.{batch-all}
 
 -- faults of two passes that are none
 none-of-both : (first second : List DescriptorErrorKind) → first_of_both first second ≡ [] → (first ≡ []) × (second ≡ [])
@@ -112,18 +112,3 @@ module _ (read : (bytes : List ℕ) (set : FileDescriptorSet) → file_set_of by
 
   pub checked-loaded : CheckedIsLoaded w inputs a
   checked-loaded is = by-batch (batch_of inputs) refl is
-
--- the set that an answer has
-pub loaded-set : (w : Wanted) (inputs : List Input) (a : Answer) → CheckedIsLoaded w inputs a → a ≡ answer w inputs → (set : LinkedSet) → a.linked ≡ Some set → IsLoadedAs w inputs set
-loaded-set w inputs a law is set handed =
-    subst (λ linked. MatchOption linked (a.status ≡ status.Accepted → w.linked ≡ None) (IsLoadedAs w inputs)) handed (law is)
-
--- bytes make one pool
-one-pool : (bytes : List ℕ) (p q : Contents) → MakesPool bytes p → MakesPool bytes q → p ≡ q
-one-pool bytes p q first second =
-    let same : first.set ≡ second.set = cc (first.read, second.read) in
-    first.linked.is ∙ ap (λ (set : FileDescriptorSet). link no_contents set.file) same ∙ sym second.linked.is
-
--- what a set makes is the pool with which the check accepts
-pub accepted-as : (w : Wanted) (inputs : List Input) (set : LinkedSet) → IsLoadedAs w inputs set → (q : Contents) → MakesPool set.bytes q → AcceptedAs w inputs q
-accepted-as w inputs set loaded q makes = subst (AcceptedAs w inputs) (one-pool set.bytes loaded.pool q loaded.makes makes) loaded.accepted

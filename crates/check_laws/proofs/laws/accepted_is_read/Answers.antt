@@ -1,5 +1,5 @@
-use Rattle.example_pool.proofs.Against.{accepted-read, has-pools}
-use Rattle.example_pool.proofs.checked.accepted_is_read.Goals as goal
+use Rattle.check_laws.proofs.Against.{accepted-read, has-pools}
+use Rattle.check_laws.proofs.laws.accepted_is_read.Goals as goal
 
 pub returns-clause-read : goal.returns-clause-read
 returns-clause-read c = accepted-read c.args.wanted.now c.args.older.now c.args.inputs.now c.args.answer.now c.args.old.now c.args.new.now c.untold_is_read.ensures.read c.untold_is_read.ensures.maps c.untold_is_kept.ensures

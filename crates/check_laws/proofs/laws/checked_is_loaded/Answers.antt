@@ -1,5 +1,5 @@
-use Rattle.example_pool.proofs.Accepted.{checked-loaded}
-use Rattle.example_pool.proofs.checked.checked_is_loaded.Goals as goal
+use Rattle.check_laws.proofs.Accepted.{checked-loaded}
+use Rattle.check_laws.proofs.laws.checked_is_loaded.Goals as goal
 
 pub returns : goal.returns
 returns c =

@@ -30,8 +30,8 @@ use Rattle.descriptor_check.specs.declared.inputs.Input.{Input}
 use Rattle.descriptor_check.specs.declared.olders.Older.{Older}
 use Rattle.descriptor_check.specs.declared.verdicts.Verdict.{Verdict}
 use Rattle.descriptor_check.specs.declared.verdicts.Verdict.TheVariants.{Accepted, Refused, TooMany, Unequal}
-use Rattle.example_pool.specs.Against.{AcceptedIsRead, HasPools, OlderAs, ReadsIn}
-use Rattle.example_pool.specs.Checked.{AcceptedAs}
+use Rattle.check_laws.specs.Against.{AcceptedIsRead, HasPools, OlderAs, ReadsIn}
+use Rattle.check_laws.specs.Checked.{AcceptedAs}
 
 -- ---- tests that no element passes
 

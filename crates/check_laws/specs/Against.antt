@@ -17,7 +17,7 @@ use Rattle.descriptor_check.specs.declared.answer.Answer.{Answer}
 use Rattle.descriptor_check.specs.declared.answer.Status.TheVariants as status
 use Rattle.descriptor_check.specs.declared.answer.Wanted.{Wanted}
 use Rattle.descriptor_check.specs.declared.inputs.Input.{Input}
-use Rattle.example_pool.specs.Checked.{AcceptedAs}
+use Rattle.check_laws.specs.Checked.{AcceptedAs}
 
 -- the files of an input alone are accepted as an older version, with a pool
 abbrev pub OlderAs : Wanted → Input → Contents → Type 0
