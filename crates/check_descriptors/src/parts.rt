@@ -4,22 +4,26 @@ use crate::failures::{failure_of, refusal};
 use descriptor_check::{DeviceError, LinkedSet, Part};
 use plain_data::Text;
 use std::alloc::{AllocError, Global};
-use std::fs::{self, File, Metadata};
+use std::fs::{self, File, Metadata, OpenOptions};
 use std::io::{self, ErrorKind, Write};
+use std::os::unix::fs::{MetadataExt, OpenOptionsExt, PermissionsExt};
 
 /// How many names beside a file are tried.
 const MOST_NAMES: u32 = 1000;
 
+/// The mode of a file that replaces none, before the mask of the process.
+const NEW_MODE: u32 = 0o666;
+
 /// Writes a set beside its file. The part has the mode of the file, if that is there.
 ///
 /// # Errors
-/// `Failed` where the file is no regular one or the part could not be written, and `OutOfMemory`.
-/// Nothing is left then.
+/// `Failed` where the file is no regular one, or that of the standard output, or the part could not
+/// be written, and `OutOfMemory`. Nothing is left then.
 pub(crate) fn write_part(rt: &HostRuntime, set: &LinkedSet) -> Result<Part, DeviceError> {
     let alloc = rt.alloc();
     let old = old_file(rt, set.name.as_str())?;
     let place = place_of(rt, set.name.as_str(), &old)?;
-    let (name, file) = free_file(rt, place.as_str())?;
+    let (name, file) = free_file(rt, place.as_str(), mode_of(&old))?;
     match fill(file, old, set.bytes.as_slice()) {
         Ok(()) => Ok(Part { name, place }),
         Err(error) => {
@@ -33,10 +37,31 @@ pub(crate) fn write_part(rt: &HostRuntime, set: &LinkedSet) -> Result<Part, Devi
 fn old_file(rt: &HostRuntime, name: &str) -> Result<Option<Metadata>, DeviceError> {
     let alloc = rt.alloc();
     match fs::metadata(rt, name) {
-        Ok(old) if old.is_file() => Ok(Some(old)),
-        Ok(_) => Err(refusal(alloc, name, "it is there, and is no regular file")),
+        Ok(old) if !old.is_file() => {
+            Err(refusal(alloc, name, "it is there, and is no regular file"))
+        }
+        Ok(old) if is_standard_output(rt, &old) => {
+            Err(refusal(alloc, name, "it is the file of the standard output"))
+        }
+        Ok(old) => Ok(Some(old)),
         Err(error) if error.kind() == ErrorKind::NotFound => new_file(rt, name),
         Err(error) => Err(failure_of(alloc, name, &error)),
+    }
+}
+
+/// Whether a file is the one that the standard output goes to. The verdict would be lost with it.
+fn is_standard_output(rt: &HostRuntime, file: &Metadata) -> bool {
+    match fs::metadata(rt, "/dev/stdout") {
+        Ok(output) => output.dev() == file.dev() && output.ino() == file.ino(),
+        Err(_unknown) => false,
+    }
+}
+
+/// The mode with which a part is made: that of the file that it replaces.
+fn mode_of(old: &Option<Metadata>) -> u32 {
+    match old {
+        Some(old) => old.permissions().mode(),
+        None => NEW_MODE,
     }
 }
 
@@ -66,12 +91,14 @@ fn place_of(rt: &HostRuntime, name: &str, old: &Option<Metadata>) -> Result<Text
     }
 }
 
-/// A new file beside another, by a name that nothing had.
-fn free_file(rt: &HostRuntime, place: &str) -> Result<(Text, File), DeviceError> {
+/// A new file beside another, by a name that nothing had, with a mode.
+fn free_file(rt: &HostRuntime, place: &str, mode: u32) -> Result<(Text, File), DeviceError> {
     let alloc = rt.alloc();
+    let mut options = OpenOptions::new();
+    options.write(true).create_new(true).mode(mode);
     for number in 0..MOST_NAMES {
         let name = part_name(alloc, place, number)?;
-        match File::create_new(rt, name.as_str()) {
+        match options.open(rt, name.as_str()) {
             Ok(file) => return Ok((name, file)),
             Err(error) if error.kind() == ErrorKind::AlreadyExists => {}
             Err(error) => return Err(failure_of(alloc, name.as_str(), &error)),

@@ -4,7 +4,6 @@ ghost use Rattle.std.specs.Prelude.{◌≡◌, ◌++◌, IfOk, IfErr, OnOk, OnEr
 ghost use Rattle.descriptor_check.specs.Arguments.{request_of};
 ghost use Rattle.descriptor_check.specs.Devices.{with_set};
 ghost use Rattle.descriptor_check.specs.Runs as spec;
-ghost use Rattle.descriptor_check.specs.declared.answer.Status.TheVariants.{Device};
 
 use crate::against::check_against;
 use crate::answer::{Answer, LinkedSet, Status};
@@ -193,18 +192,22 @@ fn write_with_set<D: CheckDevices>(
     match devices.put_in_place(alloc, part, set) {
         Ok(()) => answer.status,
         Err(DeviceError::OutOfMemory) => Status::Device,
-        Err(DeviceError::Failed(why)) => tell_failure(alloc, devices, &why),
+        Err(DeviceError::Failed(why)) => {
+            let _ = tell_failure(alloc, devices, &why);
+            Status::Device
+        }
     }
 }
 
-/// Tells why a set could not be written, as far as that can be told.
+/// Tells why a set could not be written. The status is `OutOfMemory` where there was no memory for
+/// that, and nothing is written then.
 fn tell_failure<D: CheckDevices>(alloc: Global, devices: &mut D, why: &Text) -> Status
-    ensures status { result ≡ Device }
-    ensures sets { (D.told devices.new).sets ≡ (D.told devices.old).sets }
+    ensures { spec.EndsShort (D.told devices.old) (D.told devices.new) result }
 {
     let mut line = String::new(alloc);
-    if write_complaint(alloc, &mut line, why.as_str()).is_ok() {
-        let _ = devices.complain(line.as_str());
+    if write_complaint(alloc, &mut line, why.as_str()).is_err() {
+        return Status::OutOfMemory;
     }
+    let _ = devices.complain(line.as_str());
     Status::Device
 }
