@@ -15,6 +15,7 @@ use Rattle.descriptor_check.specs.declared.arguments.Reading.TheVariants as read
 use Rattle.descriptor_check.specs.declared.arguments.Request.{Request}
 use Rattle.descriptor_check.specs.declared.arguments.Request.TheVariants.{Check, Help, Version}
 use Rattle.descriptor_check.specs.declared.arguments.Request.TheVariants.{Wrong}
+use Rattle.descriptor_check.specs.declared.arguments.TheConstants.{HELP, USAGE}
 use Rattle.descriptor_check.specs.declared.arguments.Valued.{Valued}
 use Rattle.descriptor_check.specs.declared.arguments.Valued.TheVariants as valued
 use Rattle.descriptor_check.specs.declared.arguments.Valued.TheVariants.{MaxFaults, Describe}
@@ -254,3 +255,7 @@ finished (reading.Done request) = request
 -- what some words ask
 abbrev pub request_of : List (List ℕ) → Request
 request_of words = finished (fold step (reading.Reads no_job) words)
+
+-- the arguments that there are, what the program does, and what they mean
+abbrev pub help : List ℕ
+help = USAGE.now ++ HELP.now

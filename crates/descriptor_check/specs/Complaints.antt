@@ -4,6 +4,7 @@ use Rattle.std.specs.declared.option.Option.TheVariants.{None}
 use Rattle.verdict_texts.specs.Lines.{line}
 use Rattle.descriptor_check.specs.declared.answer.Answer.{Answer}
 use Rattle.descriptor_check.specs.declared.answer.Status.TheVariants as status
+use Rattle.descriptor_check.specs.declared.arguments.TheConstants.{USAGE}
 
 -- a line of the program's for the standard error
 abbrev pub complaint : List ℕ → List ℕ
@@ -18,17 +19,6 @@ no_answer report complaint =
 abbrev pub no_verdict : List ℕ → Answer
 no_verdict words = no_answer [] (complaint words)
 
--- the arguments of a check against older versions
-abbrev pub usage_against : List ℕ
-usage_against = codes
-    "       check_descriptors --against OLD... [--compatibility WHICH] [--level LEVEL] .. FILE...\n"
-
--- the arguments that there are
-abbrev pub usage : List ℕ
-usage = codes "usage: check_descriptors [--json] [--max-faults N] [--linked OUT] FILE...\n"
-    ++ (codes "       check_descriptors [--list] [--describe NAME]... [--linked OUT] FILE...\n"
-    ++ usage_against)
-
 -- no verdict since arguments are wrong, and why, with those that there are
 abbrev pub wrong_arguments : List ℕ → Answer
-wrong_arguments words = no_answer [] (complaint words ++ usage)
+wrong_arguments words = no_answer [] (complaint words ++ USAGE.now)

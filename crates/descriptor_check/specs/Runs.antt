@@ -4,10 +4,10 @@ use Rattle.std.specs.declared.option.Option.{Option}
 use Rattle.std.specs.declared.option.Option.TheVariants.{None, Some}
 use Rattle.descriptor_check.specs.Against.{answer_against}
 use Rattle.descriptor_check.specs.Answers.{told}
-use Rattle.descriptor_check.specs.Arguments.{request_of}
+use Rattle.descriptor_check.specs.Arguments.{help, request_of}
 use Rattle.descriptor_check.specs.Complaints.{no_verdict, wrong_arguments}
 use Rattle.descriptor_check.specs.Devices.{Devices, IsTold, with_complaint, with_report, with_set}
-use Rattle.descriptor_check.specs.declared.arguments.TheConstants.{HELP, VERSION}
+use Rattle.descriptor_check.specs.declared.arguments.TheConstants.{VERSION}
 use Rattle.descriptor_check.specs.declared.answer.Answer.{Answer}
 use Rattle.descriptor_check.specs.declared.answer.LinkedSet.{LinkedSet}
 use Rattle.descriptor_check.specs.declared.answer.Status.{Status}
@@ -72,7 +72,7 @@ Checks bytes_of job a = Answers bytes_of job a
 -- the answer to what some words ask
 abbrev pub Asked : (List ℕ → Option (List ℕ)) → Request → Answer → Type 0
 Asked bytes_of (Check job) a = Checks bytes_of job a
-Asked bytes_of Help a = a ≡ told status.Accepted HELP.now
+Asked bytes_of Help a = a ≡ told status.Accepted help
 Asked bytes_of Version a = a ≡ told status.Accepted VERSION.now
 Asked bytes_of (Wrong words) a = a ≡ wrong_arguments words
 

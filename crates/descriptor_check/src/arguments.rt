@@ -1,6 +1,6 @@
 //! The arguments of the program.
 
-ghost use Rattle.std.specs.Prelude.{◌≡◌, ℕ, IfOk, IfSome};
+ghost use Rattle.std.specs.Prelude.{◌≡◌, ℕ, IfOk, IfSome, string_bytes};
 ghost use Rattle.std.specs.Option.{option_copied, option_map};
 ghost use Rattle.descriptor_check.specs.Arguments as spec;
 
@@ -13,12 +13,15 @@ use verdict_texts::Format;
 /// The version of the program.
 pub const VERSION: &str = "check_descriptors 0.3.0\n";
 
-/// What the program does, and its arguments.
-pub const HELP: &str = "\
+/// The arguments that there are.
+pub(crate) const USAGE: &str = "\
 usage: check_descriptors [--strict] [--json] [--max-faults N] [--linked OUT] FILE...
        check_descriptors [--list] [--describe NAME]... [--linked OUT] FILE...
        check_descriptors --against OLD... [--compatibility WHICH] [--level LEVEL] .. FILE...
+";
 
+/// What the program does, and what its arguments mean.
+pub(crate) const HELP: &str = "
 Links descriptor sets as one batch, and tells whether they break a rule, and what they change of \
 older
 versions.
@@ -54,6 +57,18 @@ exit status: 0 accepted, and nothing changes; 1 refused, or something changes; 2
 wrong arguments, what is no set, or an older version that is refused; 3 memory was refused; 4 what
 there is to tell could not be written
 ";
+
+/// What the program does, and its arguments.
+///
+/// # Errors
+/// `AllocError` where memory was refused.
+pub fn help(alloc: Global) -> Result<String, AllocError>
+    ensures { IfOk result (λ text. string_bytes text ≡ spec.help) }
+{
+    let mut text = String::from_str(alloc, USAGE)?;
+    text.push_str(HELP)?;
+    Ok(text)
+}
 
 /// What is to be checked, and what is wanted of it.
 #[derive(Drop)]

@@ -4,6 +4,7 @@ ghost use Rattle.std.specs.Prelude.{◌≡◌, ◌++◌, IfOk, OnOk, string_byte
 ghost use Rattle.descriptor_check.specs.Complaints as spec;
 
 use crate::answer::{Answer, Status};
+use crate::arguments::USAGE;
 use plain_data::Text;
 use std::alloc::{AllocError, Global};
 use verdict_texts::write_line;
@@ -48,15 +49,6 @@ pub(crate) fn complain_of_arguments(alloc: Global, words: &str) -> Result<Answer
 {
     let mut complaint = String::new(alloc);
     write_complaint(alloc, &mut complaint, words)?;
-    complaint.push_str(
-        "usage: check_descriptors [--json] [--max-faults N] [--linked OUT] FILE...\n",
-    )?;
-    complaint.push_str(
-        "       check_descriptors [--list] [--describe NAME]... [--linked OUT] FILE...\n",
-    )?;
-    complaint.push_str(
-        "       check_descriptors --against OLD... [--compatibility WHICH] [--level LEVEL] \
-         .. FILE...\n",
-    )?;
+    complaint.push_str(USAGE)?;
     Ok(no_answer(String::new(alloc), complaint))
 }

@@ -20,7 +20,7 @@ mod verdicts;
 
 pub use against::check_against;
 pub use answer::{Answer, LinkedSet, Status, Wanted};
-pub use arguments::{HELP, Job, Request, VERSION, read_arguments};
+pub use arguments::{Job, Request, VERSION, help, read_arguments};
 pub use batches::{BatchError, Flaw, NotASet, read_batch};
 pub use checking::check;
 pub use devices::{CheckDevices, DeviceError, Part};

@@ -4,6 +4,7 @@ use Rattle.std.specs.Prelude.{◌∷◌, ◌++◌, codes, length}
 use Rattle.std.specs.declared.option.Option.{Option}
 use Rattle.std.specs.declared.option.Option.TheVariants.{None, Some}
 use Rattle.descriptor_check.specs.Against.{answer_against}
+use Rattle.descriptor_check.specs.Arguments.{help}
 use Rattle.descriptor_check.specs.Runs.{AreInputsOf, TellsOneOf}
 use Rattle.descriptor_check.specs.declared.answer.Answer.{Answer}
 use Rattle.descriptor_check.specs.declared.answer.Status.{Status}
@@ -12,7 +13,7 @@ use Rattle.descriptor_check.specs.declared.arguments.Job.{Job}
 use Rattle.descriptor_check.specs.declared.arguments.Request.{Request}
 use Rattle.descriptor_check.specs.declared.arguments.Request.TheVariants.{Check, Help, Version}
 use Rattle.descriptor_check.specs.declared.arguments.Request.TheVariants.{Wrong}
-use Rattle.descriptor_check.specs.declared.arguments.TheConstants.{HELP, VERSION}
+use Rattle.descriptor_check.specs.declared.arguments.TheConstants.{VERSION}
 use Rattle.descriptor_check.specs.declared.devices.DeviceError.TheVariants.{Failed}
 use Rattle.descriptor_check.specs.declared.inputs.Input.{Input}
 use Rattle.protoc_gen_protolink.specs.Parameters.{asked_by}
@@ -63,7 +64,7 @@ AnswersJob bytes_of set job false error =
 -- the error for what the parameter asks of the files of a request
 abbrev pub Answers : (List ℕ → Option (List ℕ)) → List ℕ → Request → Option (List ℕ) → Type 0
 Answers bytes_of set (Check job) error = AnswersJob bytes_of set job (asks_too_much job) error
-Answers bytes_of set Help error = error ≡ Some HELP.now
+Answers bytes_of set Help error = error ≡ Some help
 Answers bytes_of set Version error = error ≡ Some VERSION.now
 Answers bytes_of set (Wrong words) error = error ≡ Some words
 

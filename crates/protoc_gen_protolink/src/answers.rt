@@ -9,7 +9,7 @@ use crate::devices::PluginDevices;
 use crate::parameters::asked_by;
 use crate::requests::CodeRequest;
 use descriptor_check::{
-    Answer, DeviceError, HELP, Input, Job, Request, Status, VERSION, check_against,
+    Answer, DeviceError, Input, Job, Request, Status, VERSION, check_against, help,
 };
 use plain_data::{Items, Text};
 use std::alloc::{AllocError, Global};
@@ -29,7 +29,7 @@ pub(crate) fn error_for<D: PluginDevices>(
     let CodeRequest { parameter, set } = request;
     match asked_by(alloc, &parameter)? {
         Request::Check(job) => error_for_job(alloc, devices, set, &job),
-        Request::Help => Ok(Some(Text::from_str(alloc, HELP)?)),
+        Request::Help => Ok(Some(Text::from_string(help(alloc)?))),
         Request::Version => Ok(Some(Text::from_str(alloc, VERSION)?)),
         Request::Wrong(words) => Ok(Some(words)),
     }
