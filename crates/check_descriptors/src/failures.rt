@@ -15,6 +15,14 @@ pub(crate) fn failure_of(alloc: Global, name: &str, error: &Error) -> DeviceErro
     failure_by(error, format!(in alloc; "{name}: {error}"))
 }
 
+/// Why the arguments could not be read: most likely one is not UTF-8.
+pub(crate) fn failure_of_arguments(alloc: Global, error: &Error) -> DeviceError {
+    if error.kind() == ErrorKind::InvalidData {
+        return told_by(String::from_str(alloc, "one is not UTF-8"));
+    }
+    failure(alloc, error)
+}
+
 /// Want of memory, or the words that tell a failure.
 fn failure_by(error: &Error, words: Result<String, AllocError>) -> DeviceError {
     if error.kind() == ErrorKind::OutOfMemory {

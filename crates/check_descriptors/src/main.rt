@@ -15,7 +15,7 @@ mod parts;
 mod words;
 
 use descriptor_check::{Status, run};
-use failures::failure;
+use failures::failure_of_arguments;
 use host::Host;
 use std::alloc::AllocError;
 use std::env::{self, Args};
@@ -27,7 +27,7 @@ fn main(rt: HostRuntime) -> ExitCode {
     let status = match env::args(&rt) {
         Ok(arguments) => run_with(rt, arguments),
         Err(error) => {
-            let words = Err(failure(alloc, &error));
+            let words = Err(failure_of_arguments(alloc, &error));
             run(alloc, &mut Host { rt, words })
         }
     };

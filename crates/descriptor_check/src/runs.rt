@@ -145,28 +145,33 @@ fn write_all<D: CheckDevices>(alloc: Global, devices: &mut D, answer: &Answer) -
 {
     match &answer.linked {
         Some(set) => write_with_set(alloc, devices, answer, set),
-        None => write_alone(devices, answer),
+        None => write_alone(alloc, devices, answer),
     }
 }
 
 /// Writes an answer that has no set.
-fn write_alone<D: CheckDevices>(devices: &mut D, answer: &Answer) -> Status
+fn write_alone<D: CheckDevices>(alloc: Global, devices: &mut D, answer: &Answer) -> Status
     ensures { spec.EndsIn (spec.with_texts answer.now (D.told devices.old))
         (D.told devices.old) (D.told devices.new) answer.now.status result }
 {
-    match write_texts(devices, answer) {
+    match write_texts(alloc, devices, answer) {
         Ok(()) => answer.status,
         Err(_) => Status::Device,
     }
 }
 
-/// Writes what an answer tells.
-fn write_texts<D: CheckDevices>(devices: &mut D, answer: &Answer) -> io::Result<()>
+/// Writes what an answer tells. Why the report could not be written is told, as far as that can be.
+fn write_texts<D: CheckDevices>(alloc: Global, devices: &mut D, answer: &Answer) -> io::Result<()>
     ensures ok { OnOk result (D.told devices.new
         ≡ spec.with_texts answer.now (D.told devices.old)) }
     ensures err { OnErr result ((D.told devices.new).sets ≡ (D.told devices.old).sets) }
 {
-    devices.print(answer.report.as_str())?;
+    if let Err(error) = devices.print(answer.report.as_str()) {
+        if let Ok(words) = format!(in alloc; "the standard output: {error}") {
+            let _ = tell_failure(alloc, devices, words.as_str());
+        }
+        return Err(error);
+    }
     devices.complain(answer.complaint.as_str())
 }
 
@@ -183,9 +188,9 @@ fn write_with_set<D: CheckDevices>(
     let part = match devices.write_part(alloc, set) {
         Ok(part) => part,
         Err(DeviceError::OutOfMemory) => return Status::OutOfMemory,
-        Err(DeviceError::Failed(why)) => return tell_failure(alloc, devices, &why),
+        Err(DeviceError::Failed(why)) => return tell_failure(alloc, devices, why.as_str()),
     };
-    if write_texts(devices, answer).is_err() {
+    if write_texts(alloc, devices, answer).is_err() {
         devices.give_up(part);
         return Status::Device;
     }
@@ -193,19 +198,19 @@ fn write_with_set<D: CheckDevices>(
         Ok(()) => answer.status,
         Err(DeviceError::OutOfMemory) => Status::Device,
         Err(DeviceError::Failed(why)) => {
-            let _ = tell_failure(alloc, devices, &why);
+            let _ = tell_failure(alloc, devices, why.as_str());
             Status::Device
         }
     }
 }
 
-/// Tells why a set could not be written. The status is `OutOfMemory` where there was no memory for
-/// that, and nothing is written then.
-fn tell_failure<D: CheckDevices>(alloc: Global, devices: &mut D, why: &Text) -> Status
+/// Tells why something could not be written. The status is `OutOfMemory` where there was no memory
+/// for that, and nothing is written then.
+fn tell_failure<D: CheckDevices>(alloc: Global, devices: &mut D, why: &str) -> Status
     ensures { spec.EndsShort (D.told devices.old) (D.told devices.new) result }
 {
     let mut line = String::new(alloc);
-    if write_complaint(alloc, &mut line, why.as_str()).is_err() {
+    if write_complaint(alloc, &mut line, why).is_err() {
         return Status::OutOfMemory;
     }
     let _ = devices.complain(line.as_str());
