@@ -1208,6 +1208,17 @@ ROWS.append(
         file="n.proto",
     )
 )
+for format_ in (None, "github", "gitlab", "sarif"):
+    ROWS.append(
+        Row(
+            "message-removed-with-its-file" + (f"-as-{format_}" if format_ else ""),
+            P3 + message("int32 a = 1;"),
+            P3 + message("int32 a = 1;", name="N"),
+            backward=[gone("wire", "message-removed", "message", "m.M", "", WRITTEN)],
+            file="n.proto",
+            format=format_,
+        )
+    )
 at_level("source", "source-unchanged", SEVERAL_OLD, SEVERAL_OLD)
 at_level(
     "source",
@@ -1536,8 +1547,8 @@ class Made:
 
     def fault(self, change: Change) -> Fault:
         """A change in the form of a fault, whose second place is in the older version."""
-        at = place_in(self.new, change.new) if change.new else None
         second = place_in(self.old, change.old)
+        at = place_in(self.new, change.new) if change.new else second
         if change.words or change.code not in OF_MESSAGES:
             words = change.words or "it was declared at"
             return Fault(change.code, change.text, change.note, at, second, words)
@@ -1547,11 +1558,15 @@ class Made:
             words = "its message was declared at"
         return Fault(change.code, change.text, change.note, at, second, words)
 
+    def records(self, change: Change) -> Records:
+        """The version in which a change is shown: the older one, where the new one lacks its file."""
+        return {self.new.name: self.new} if change.new else {FILE: self.old}
+
     def lines(self, change: Change) -> str:
-        """The lines of a change: places in the new version, but for the second one."""
+        """The lines of a change: places in the version that shows it, but for the second one."""
         fault = self.fault(change)
         second, fault.second = fault.second, None
-        whole = breaks.fault_lines({self.new.name: self.new}, fault).splitlines(keepends=True)
+        whole = breaks.fault_lines(self.records(change), fault).splitlines(keepends=True)
         assert second is not None
         old: Records = {FILE: self.old}
         words = f"  note: {fault.words} {breaks.place_words(old, second)}"
@@ -1563,7 +1578,7 @@ class Made:
         """The object of a change."""
         fault = self.fault(change)
         second, fault.second = fault.second, None
-        whole = breaks.fault_object({self.new.name: self.new}, fault)
+        whole = breaks.fault_object(self.records(change), fault)
         whole["related"] = [breaks.place_members({FILE: self.old}, second)]
         head = {"level": change.level, "direction": direction, "against": self.against}
         return {**head, **whole}

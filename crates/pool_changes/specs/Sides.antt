@@ -2,6 +2,7 @@
 use Rattle.std.specs.Prelude.{ℕ, ℤ, Bool, true, false, ◌&&◌, List, [], ◌∷◌, ◌++◌, codes, slice_get}
 use Rattle.std.specs.Prelude.{option_map, option_and_then, Option, Some, None, if◌then◌else◌}
 use Rattle.std.specs.FinMap as finite
+use Rattle.std.specs.Option.{option_or}
 use Rattle.std.specs.Str.{bytes_eq}
 use Rattle.pool_types.specs.Contents.{Contents}
 use Rattle.pool_types.specs.declared.contents.definition.Identity.{Identity}
@@ -169,12 +170,16 @@ abbrev pub sides_text : Side → Side → List ℕ
 sides_text a b = codes "'" ++ (name_shown a b ++ (codes "': " ++ (side_text a
     ++ (codes " became " ++ side_text b))))
 
+-- where a change is shown: at its new side, or at its old one where the new version has no file for it
+abbrev pub place_shown : Contents → Contents → Side → Side → Option ToldPlace
+place_shown old new a b = option_or (side_place new b) (side_place old a)
+
 -- a change of an old and a new version as it is told, by both sides
 abbrev pub told_of : Contents → Contents → ElementChange → Side → Side → ToldFault
 told_of old new k a b = record {
   code = element_code k;
   message = sides_text a b;
-  place = side_place new b;
+  place = place_shown old new a b;
   second = side_second old a;
   note = element_note k;
 }

@@ -285,6 +285,18 @@ impl<'a> Telling<'a> {
         Some(found.index())
     }
 
+    /// Where a change is shown: at its new side, or at its old one where the new version has no file
+    /// for it.
+    fn place_shown(self, old: Side<'_>, new: Side<'_>) -> Result<Option<ToldPlace>, AllocError>
+        ensures { IfOk result (λ place. place ≡ spec.place_shown self.entry.old.now
+            self.entry.new.now (spec.side old.entry) (spec.side new.entry)) }
+    {
+        match new.place(self.alloc, self.new)? {
+            Some(place) => Ok(Some(place)),
+            None => old.place(self.alloc, self.old),
+        }
+    }
+
     /// A change of the older and the new version by both sides.
     fn told_of(
         self,
@@ -298,7 +310,7 @@ impl<'a> Telling<'a> {
         let alloc = self.alloc;
         let code = Text::from_str(alloc, change.code())?;
         let message = Text::from_string(sides_text(alloc, old, new)?);
-        let place = new.place(alloc, self.new)?;
+        let place = self.place_shown(old, new)?;
         let second = old.second(alloc, self.old)?;
         let note = Text::from_str(alloc, change.note())?;
         Ok(ToldFault {
