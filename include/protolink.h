@@ -35,7 +35,7 @@
  *     consistent atomic. A pool may be handed to another thread so.
  *   - No call is made from a signal handler, nor in the child of a fork of a process with threads.
  *   - malloc, realloc and free are of one allocator, and align as the C library's do.
- *   - There is stack enough: it grows with the nesting of messages (docs/MEMORY.md).
+ *   - There is stack enough: it grows with the nesting of messages (docs/inside/MEMORY.md).
  *
  * TEXTS are bytes of UTF-8 with a length, and have no zero at their end. A text, or bytes, that a
  * call hands out goes to a buffer of the caller. Such calls have three last parameters,

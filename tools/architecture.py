@@ -1,5 +1,5 @@
 #!/usr/bin/env python3
-"""Checks crates.txt, and the tables of docs/ARCHITECTURE.md: whether all that they name is there.
+"""Checks crates.txt and the tables of docs/inside/ARCHITECTURE.md: whether what they name is there.
 
     python3 architecture.py
     python3 architecture.py --storeys     puts crates.txt and the layers in the order of the storeys
@@ -24,7 +24,7 @@ from typing import NamedTuple
 
 CRATES = Path(__file__).resolve().parent.parent / "crates"
 TOP = CRATES.parent
-PAGE = TOP / "docs" / "ARCHITECTURE.md"
+PAGE = TOP / "docs/inside/ARCHITECTURE.md"
 FILE = re.compile(r"([\w*/.-]+\.(?:antt|rt|edit)|(?:src|data)/[\w/]+/)(?: \(([^)]*)\))?")
 
 

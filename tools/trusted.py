@@ -62,7 +62,7 @@ HEAD = """\
 A proof is worth what it rests on. Those of this repository rest on what this page names, and on nothing else. `tools/trusted.py` prints the page. The gate compares it with what is printed.
 
 - **The toolchain.** Its checker judges the proofs, by its model of what code does. Its compiler makes machine code of what was proved, by LLVM or by a back end of its own. No proof of this repository speaks of either ([which line of the toolchain](../README.md#install-it)).
-- **The definitions.** A contract says that a call does what a definition says. Whether that is what protobuf means, people judge who read it. [PROVED.md](PROVED.md) names the definitions of each call.
+- **The definitions.** A contract says that a call does what a definition says. Whether that is what protobuf means, people judge who read it. [CONTRACTS.md](inside/CONTRACTS.md) names the definitions of each call.
 - **Functions of C.** Rattle's standard library calls them. Each has a contract, which says what the C library or the operating system does. Nothing checks that they do so. They are [listed below](#functions-of-c).
 - **Devices.** What a program reads and writes goes through a few files that no contract binds to the machine. They are tested, and [listed below](#devices).
 - **Callers in C.** They keep to what [protolink.h](../include/protolink.h) asks of them. That header with its inline functions, [protolink.hpp](../include/protolink.hpp), and the bindings in Rust and Python are tested and not proved ([C.md](C.md#what-is-trusted)).
@@ -84,7 +84,7 @@ The standard library declares many more. What is handed to users reaches these {
 DEVICES_HEAD = """\
 ## Devices
 
-The contract of a program's `run` speaks of devices: of the words and bytes that these say they read and wrote. No contract of the standard library says which arguments a program has, what a file or a stream holds, or what was written. So nothing proves that these {count} files, of {lines} lines together, hand on what the system gave and write what they are handed. Nor does anything prove it of the calls of `std::env`, `std::fs` and `std::io` that they make. [PROVED.md](PROVED.md#descriptor_check-a-run-of-the-check) says what is proved of the programs all the same. The files are proved as all code is: they are safe, they end, and each function does what its contract says. The stored runs and `tools/test_tools.py` test the rest.
+The contract of a program's `run` speaks of devices: of the words and bytes that these say they read and wrote. No contract of the standard library says which arguments a program has, what a file or a stream holds, or what was written. So nothing proves that these {count} files, of {lines} lines together, hand on what the system gave and write what they are handed. Nor does anything prove it of the calls of `std::env`, `std::fs` and `std::io` that they make. [CONTRACTS.md](inside/CONTRACTS.md#descriptor_check-a-run-of-the-check) says what is proved of the programs all the same. The files are proved as all code is: they are safe, they end, and each function does what its contract says. The stored runs and `tools/test_tools.py` test the rest.
 
 | file | lines | what it does |
 |---|---|---|
