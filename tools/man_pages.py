@@ -115,6 +115,12 @@ def blocks(text: str) -> Iterator[tuple[str, list[str]]]:
         yield before, run
 
 
+def code(text: str) -> list[str]:
+    """The indented blocks of a page, each with the empty lines in it."""
+    runs = [run for kind, run in blocks(text) if kind == "code"]
+    return ["\n".join(line[4:] for line in run).rstrip("\n") + "\n" for run in runs]
+
+
 def cells(row: str) -> list[str]:
     """The cells of a row of a table."""
     found = re.split(r"(?<!\\)\|", row.strip()[1:-1])
