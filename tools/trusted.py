@@ -67,7 +67,7 @@ A proof is worth what it rests on. Those of this repository rest on what this pa
 - **Devices.** What a program reads and writes goes through a few files that no contract binds to the machine. They are tested, and [listed below](#devices).
 - **Callers in C.** They keep to what [protolink.h](../include/protolink.h) asks of them. That header with its inline functions, [protolink.hpp](../include/protolink.hpp), and the bindings in Rust and Python are tested and not proved ([C.md](C.md#what-is-trusted)).
 
-Nothing is assumed besides. `rt ci` refuses a proof with a hole, and an axiom or a function of C that this repository declares.
+Nothing else is assumed. `rt ci` refuses a proof with a hole, and an axiom or a function of C that this repository declares.
 
 - [Functions of C](#functions-of-c)
 - [Devices](#devices)
@@ -99,7 +99,7 @@ Of any other function the checker makes the frame of the proof, and the files of
 UNSAFE = """\
 ## Unsafe code
 
-`unsafe` stands in these places, and in no other. Each is proved. The exports of the library for C bear the word too, in `#[unsafe(no_mangle)]`, since the name of an export could be another's.
+`unsafe` is in these places, and in no other. Each is proved. The exports of the library for C bear the word too, in `#[unsafe(no_mangle)]`, since the name of an export could be another's.
 """
 
 
