@@ -5,7 +5,7 @@
     tools/definitions.py --check     writes nothing
 
 A crate is a section, in the order of crates.txt, and a module a part of it, in the order of the
-crate's specs/Lib.antt. A definition without a comment is told, with status 1.
+crate's specs/Lib.antt. A definition without a comment is printed, with status 1.
 """
 
 from __future__ import annotations

@@ -5,11 +5,11 @@
     python3 trusted.py --check
 
 The page has four lists. The first is of the functions of C whose contracts the proof of a program
-or of the library reaches: `rattle check --list-axioms` tells them. The others are of the files that
+or of the library reaches: `rattle check --list-axioms` lists them. The others are of the files that
 no contract binds to the machine, of the functions that are proved by hand, and of the places where
 code is `unsafe`: they are read off the files.
 
-`--check` tells where the page is another than what is printed, with status 1. The last line counts:
+`--check` shows where the page is another than what is printed, with status 1. The last line counts:
 `N passed, M failed, K left out`.
 
 The three programs and the library are checked over the libraries of crates that `rt ci` left, which
