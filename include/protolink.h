@@ -3,8 +3,8 @@
  *
  * A pool takes in descriptions of .proto files, as protoc and registries hand them out, gives every
  * declaration a full name and an index, finds what each type name means, and refuses what breaks
- * the rules of the language. It hands out the linked files as bytes, and tells their items by index
- * and by name.
+ * the rules of the language. It hands out the linked files as bytes, and their items by index and
+ * by name.
  *
  *     protolink_pool pool = PROTOLINK_POOL_EMPTY;
  *     if (protolink_pool_add_set(&pool, bytes, len) == PROTOLINK_DONE) {
@@ -16,7 +16,7 @@
  *
  * WHAT IS PROVED. Of each call, what it answers and what it leaves, for all arguments that a caller
  * may pass. No call aborts, prints, waits, starts a thread, or keeps anything but what its pool
- * owns. Want of memory is a status. This header and the bindings over it are no part of the proofs.
+ * owns. Out of memory is a status. This header and the bindings over it are no part of the proofs.
  *
  * WHAT A CALLER OWES. Nothing checks these:
  *
@@ -30,12 +30,12 @@
  *     protolink_pool_clone the pool that it makes a copy: no other call uses that pool meanwhile.
  *     All other calls look up. They take a const pool, and any number of them may use one pool at
  *     once. Different pools are independent.
- *   - Between a call that changes a pool and a call of another thread with the same pool stands
- *     what orders memory between the two: a lock, the start or the end of a thread, a sequentially
- *     consistent atomic. A pool may be handed to another thread so.
+ *   - A call that changes a pool and a call of another thread with the same pool are synchronized:
+ *     by a lock, the start or the end of a thread, or a sequentially consistent atomic. A pool may
+ *     be handed to another thread so.
  *   - No call is made from a signal handler, nor in the child of a fork of a process with threads.
  *   - malloc, realloc and free are of one allocator, and align as the C library's do.
- *   - There is stack enough: it grows with the nesting of messages (docs/MEMORY.md).
+ *   - There is stack enough: it grows with the nesting of messages (docs/inside/MEMORY.md).
  *
  * TEXTS are bytes of UTF-8 with a length, and have no zero at their end. A text, or bytes, that a
  * call hands out goes to a buffer of the caller. Such calls have three last parameters,
@@ -44,15 +44,15 @@
  *
  * and answer
  *
- *     PROTOLINK_DONE   the text stands at the front of the buffer, and *length is its length. What
- *                      is behind it in the buffer is as it was.
+ *     PROTOLINK_DONE   the text is at the front of the buffer, and *length is its length. What
+ *                      follows it in the buffer is as it was.
  *     PROTOLINK_SHORT  the text is longer than `room`. The buffer is as it was, and *length is the
  *                      length that is needed. With a room of 0 a caller asks for it.
  *
  * or another status, after which the buffer and *length are as they were.
  *
  * NUMBERS. Indexes of files, messages, enums, services and extensions count from 0 in the order of
- * linking, and an item keeps its index for good. Fields and oneofs are told by the index of their
+ * linking, and an item keeps its index for good. Fields and oneofs are named by the index of their
  * message and their position in it, values by their enum and their position, methods by their
  * service and their position. Positions count from 0 in the order of declaration. An index, a
  * position or a kind that a pool does not have is no fault of the caller: it is answered by
@@ -93,10 +93,10 @@ typedef uint8_t protolink_status;
 
 enum protolink_statuses {
     PROTOLINK_DONE = 0,      /* it did, or found, what was asked */
-    PROTOLINK_REFUSED = 1,   /* the files break rules, which the reports tell */
-    PROTOLINK_FAULT = 2,     /* the bytes are not what they should be: the reports tell where */
+    PROTOLINK_REFUSED = 1,   /* the files break rules, which the reports show */
+    PROTOLINK_FAULT = 2,     /* the bytes are not what they should be: the reports say where */
     PROTOLINK_NO_MEMORY = 3, /* memory was refused */
-    PROTOLINK_SHORT = 4,     /* the buffer is too short: the length that is needed is told */
+    PROTOLINK_SHORT = 4,     /* the buffer is too short: the call gives the length it needs */
     PROTOLINK_TOO_MANY = 5,  /* there is too much of a kind, which the reports name */
     PROTOLINK_NOT_FOUND = 6  /* the pool does not have it */
 };
@@ -148,8 +148,8 @@ typedef struct protolink_added {
 /* At which level two pools are compared. Each level contains the ones before it. */
 enum protolink_levels {
     PROTOLINK_LEVEL_WIRE = 0,  /* what is read otherwise of bytes, or in calls of services */
-    PROTOLINK_LEVEL_JSON = 1,  /* besides, what is read otherwise of texts of JSON */
-    PROTOLINK_LEVEL_SOURCE = 2 /* besides, what code that is made of the files has otherwise */
+    PROTOLINK_LEVEL_JSON = 1,  /* also what is read otherwise of texts of JSON */
+    PROTOLINK_LEVEL_SOURCE = 2 /* also what code that is made of the files has otherwise */
 };
 
 /* Which of two pools is to read what the other writes. */
@@ -165,7 +165,7 @@ enum protolink_syntaxes {
     PROTOLINK_PROTO3 = 3
 };
 
-/* How often a field stands in a message: the numbers of FieldDescriptorProto.Label. */
+/* How often a field may be in a message: the numbers of FieldDescriptorProto.Label. */
 enum protolink_cardinalities {
     PROTOLINK_OPTIONAL = 1,
     PROTOLINK_REQUIRED = 2,
@@ -199,10 +199,10 @@ typedef struct protolink_file_info {
     uint32_t syntax;         /* PROTOLINK_PROTO2 or PROTOLINK_PROTO3 */
     uint64_t imports;        /* how many files it imports */
     uint64_t public_imports; /* how many of these imports are public */
-    uint64_t messages;       /* how many messages it has that stand in no message */
-    uint64_t enums;          /* how many enums it has that stand in no message */
+    uint64_t messages;       /* how many messages it has that are in no message */
+    uint64_t enums;          /* how many enums it has that are in no message */
     uint64_t services;       /* how many services it has */
-    uint64_t extensions;     /* how many extensions it has that stand in no message */
+    uint64_t extensions;     /* how many extensions it has that are in no message */
     uint32_t is_deprecated;  /* 1 where its options say so, else 0 */
 } protolink_file_info;
 
@@ -213,9 +213,9 @@ typedef struct protolink_message_info {
     uint64_t fields;            /* how many fields it has */
     uint64_t oneofs;            /* how many oneofs it has, those of optional fields of proto3 too */
     uint64_t extensions;        /* how many extensions of the pool extend it */
-    uint64_t nested_messages;   /* how many messages stand in it, without those in one of these */
-    uint64_t nested_enums;      /* how many enums stand in it */
-    uint64_t nested_extensions; /* how many extensions stand in it, whatever they extend */
+    uint64_t nested_messages;   /* how many messages are in it, without those in one of these */
+    uint64_t nested_enums;      /* how many enums are in it */
+    uint64_t nested_extensions; /* how many extensions are in it, whatever they extend */
     uint64_t extension_ranges;  /* how many ranges of numbers it leaves to extensions */
     uint64_t reserved_ranges;   /* how many ranges of numbers it reserves */
     uint64_t reserved_names;    /* how many names it reserves */
@@ -227,7 +227,7 @@ typedef struct protolink_message_info {
     uint32_t is_deprecated;     /* 1 where its options say so, else 0 */
 } protolink_message_info;
 
-/* A range of numbers. Of a message `end` is the number behind it, of an enum its last one. */
+/* A range of numbers. Of a message `end` is the number after it, of an enum its last one. */
 typedef struct protolink_range {
     int32_t start;
     int32_t end;
@@ -241,20 +241,20 @@ typedef struct protolink_field_info {
     uint32_t type_index;         /* the index of the type's message or enum, or PROTOLINK_NONE */
     uint32_t oneof;              /* the position of its oneof in the message, or PROTOLINK_NONE */
     uint32_t is_packed;          /* 1 where its values are encoded as one run of bytes, else 0 */
-    uint32_t supports_presence;  /* 1 where a message tells that it is set, else 0 */
+    uint32_t supports_presence;  /* 1 where a message shows that it is set, else 0 */
     uint32_t has_default;        /* 1 where a default value was given, else 0 */
     uint32_t is_map;             /* 1 where it is repeated and its type is the entry of a map */
     uint32_t is_list;            /* 1 where it is repeated and no map, else 0 */
     uint32_t is_required;        /* 1 where it must be set, else 0 */
     uint32_t is_group;           /* 1 where its type is a group, else 0 */
-    uint32_t is_proto3_optional; /* 1 where it is optional by word in proto3, else 0 */
+    uint32_t is_proto3_optional; /* 1 where it is declared `optional` in proto3, else 0 */
     uint32_t is_deprecated;      /* 1 where its options say so, else 0 */
 } protolink_field_info;
 
 /* A oneof of a message. */
 typedef struct protolink_oneof_info {
     uint64_t fields;       /* how many fields of the message are in it */
-    uint32_t is_synthetic; /* 1 where its one field is optional by word in proto3, else 0 */
+    uint32_t is_synthetic; /* 1 where its one field is declared `optional` in proto3, else 0 */
 } protolink_oneof_info;
 
 /* An enum. */
@@ -302,16 +302,16 @@ typedef struct protolink_extension_info {
     uint32_t type_index;         /* the index of the type's message or enum, or PROTOLINK_NONE */
     uint32_t is_packed;          /* 1 where its values are encoded as one run of bytes, else 0 */
     uint32_t has_default;        /* 1 where a default value was given, else 0 */
-    uint32_t supports_presence;  /* 1 where a message tells that it is set, else 0 */
+    uint32_t supports_presence;  /* 1 where a message shows that it is set, else 0 */
     uint32_t is_map;             /* 1 where it is repeated and its type is the entry of a map */
     uint32_t is_list;            /* 1 where it is repeated and no map, else 0 */
     uint32_t is_group;           /* 1 where its type is a group, else 0 */
-    uint32_t is_proto3_optional; /* 1 where it is optional by word in proto3, else 0 */
+    uint32_t is_proto3_optional; /* 1 where it is declared `optional` in proto3, else 0 */
     uint32_t is_deprecated;      /* 1 where its options say so, else 0 */
 } protolink_extension_info;
 
 /*
- * THE LIBRARY'S VERSION, as PROTOLINK_VERSION tells the header's.
+ * THE LIBRARY'S VERSION, as PROTOLINK_VERSION is the header's.
  */
 uint32_t protolink_version(void);
 
@@ -320,7 +320,7 @@ uint32_t protolink_version(void);
  *
  *   protolink_pool_add_set     a FileDescriptorSet, as `protoc --include_imports -o FILE` writes it
  *   protolink_pool_add_file    one FileDescriptorProto
- *   protolink_pool_add_files   several FileDescriptorProtos behind one another, by their lengths:
+ *   protolink_pool_add_files   several FileDescriptorProtos one after another, by their lengths:
  *                              `lens` has `count` of them; where these are more than the bytes, the
  *                              files end with the bytes
  *   protolink_pool_add_script  a script (docs/SCRIPT.md) that declares files; its commands are
@@ -331,9 +331,9 @@ uint32_t protolink_version(void);
  * that are equal, apart from the places in the source that they have, one counts.
  *
  *   PROTOLINK_DONE       they are linked. A batch without new files leaves the pool as it was, and
- *                        so do the bytes of an empty set: protolink_pool_added tells of both.
+ *                        so do the bytes of an empty set: protolink_pool_added shows both.
  *   PROTOLINK_REFUSED    the new files break rules of docs/RULES.md; or two files of one name
- *                        differ, of which each further one is told as a fault, and nothing else.
+ *                        differ, and then each later one is a fault, and there is no other.
  *   PROTOLINK_FAULT      the bytes are no such set or file, or the script has a fault.
  *   PROTOLINK_TOO_MANY   there is too much of a kind, in the new files or together with the pool.
  *   PROTOLINK_NO_MEMORY  memory was refused.
@@ -354,7 +354,7 @@ protolink_status protolink_pool_add_script(protolink_pool *pool, const uint8_t *
  * A file that is passed over differs where its record is not that of the pool's linked file, apart
  * from the places in the source that both have. So it does where a name of a type is written
  * otherwise than with a dot and its full name, as protoc writes it. A registry that takes a version
- * of a file into a pool which has another one is told so by `differing`, and by nothing else.
+ * of a file into a pool which has another one sees it by `differing`, and by nothing else.
  */
 void protolink_pool_added(protolink_pool *pool, protolink_added *added);
 
@@ -362,15 +362,15 @@ void protolink_pool_added(protolink_pool *pool, protolink_added *added);
  * THE REPORT of the last call that was to link files, in lines for people as docs/CHECK.md has
  * them, each ended by a line feed:
  *
- *   behind PROTOLINK_REFUSED   the first faults, in order, at most as many as
+ *   after PROTOLINK_REFUSED    the first faults, in order, at most as many as
  *                              protolink_pool_limit_faults has set: `FILE:LINE:COLUMN: TEXT` where
- *                              a place is known, with lines of notes behind it. Lines and columns
- *                              count from 1. A line tells how many more faults there are, if any,
+ *                              a place is known, with lines of notes after it. Lines and columns
+ *                              count from 1. A line says how many more faults there are, if any,
  *                              and the last line how many in all.
- *   behind PROTOLINK_FAULT     one line: the byte, or the line of the script, and what is wrong.
- *   behind PROTOLINK_TOO_MANY  one line, which names the kind.
+ *   after PROTOLINK_FAULT      one line: the byte, or the line of the script, and what is wrong.
+ *   after PROTOLINK_TOO_MANY   one line, which names the kind.
  *
- * Behind any other status, and of an empty pool, it is empty. The call takes no memory.
+ * After any other status, and of an empty pool, it is empty. The call takes no memory.
  *
  *   PROTOLINK_DONE, PROTOLINK_SHORT  as said under TEXTS.
  */
@@ -388,8 +388,8 @@ protolink_status protolink_pool_report_json(
     protolink_pool *pool, uint8_t *buffer, size_t room, size_t *length);
 
 /*
- * HOW MANY FAULTS ARE TOLD at most by the reports of the calls from now on that link files: 100
- * where this was never called. The reports that the pool has stay as they are. The limit is the
+ * HOW MANY FAULTS THE REPORTS HAVE at most, of the calls from now on that link files: 100 where this
+ * was never called. The reports that the pool has stay as they are. The limit is the
  * pool's: a copy of the pool has it too, and a pool that is cleared has 100 again.
  *
  *   PROTOLINK_DONE       it is set.
@@ -537,13 +537,13 @@ protolink_status protolink_oneof_field(
     protolink_pool *pool, uint32_t message, uint32_t oneof, uint32_t position, uint32_t *field);
 
 /*
- * THE ITEMS OF A KIND THAT STAND IN A FILE, and in no message, and those that stand in a message,
- * and in none of its messages: their indexes, in rising order. The kind is PROTOLINK_MESSAGE,
- * .._ENUM, .._EXTENSION or .._SERVICE, of which a message has none. `room` and *length count the
- * indexes; how many there are is also told by protolink_file_info and protolink_message_info.
+ * THE ITEMS OF A KIND THAT ARE DECLARED IN A FILE, and in no message, and those in a message, and
+ * in none of its messages: their indexes, in rising order. The kind is PROTOLINK_MESSAGE, .._ENUM,
+ * .._EXTENSION or .._SERVICE, of which a message has none. `room` and *length count the indexes;
+ * protolink_file_info and protolink_message_info have their number too.
  *
- * A call goes through all items of the kind that the pool has, and takes memory for its list. What
- * stands where is also told by each item itself, in one step: by its file and its parent.
+ * A call goes through all items of the kind that the pool has, and takes memory for its list. Each
+ * item itself shows in one step where it is declared: by its file and its parent.
  *
  *   PROTOLINK_DONE, PROTOLINK_SHORT  as said under TEXTS.
  *   PROTOLINK_NOT_FOUND              the pool has no such file or message, or the kind is another.
@@ -703,26 +703,26 @@ protolink_status protolink_path(
     protolink_pool *pool, const protolink_item *item, int32_t *path, size_t room, size_t *length);
 
 /*
- * WHERE AN ITEM STANDS IN THE SOURCE, as SourceCodeInfo of descriptor.proto writes a span: the line
- * and the column at which it begins, the line in which it ends, the column behind its end. Where it
- * ends in its first line, three numbers tell it, without the second line. They count from 0, where
+ * WHERE AN ITEM IS IN THE SOURCE, as SourceCodeInfo of descriptor.proto writes a span: the line and
+ * the column at which it begins, the line in which it ends, the column after its end. Where it ends
+ * in its first line, there are three numbers, without the second line. They count from 0, where
  * the reports count from 1. They are those of the first location with the path of the item. `room`
  * and *length count the numbers.
  *
  *   PROTOLINK_DONE, PROTOLINK_SHORT  as said under TEXTS.
  *   PROTOLINK_NOT_FOUND              the pool has no such item, it is a package, or its file does
- *                                    not tell where it stands, as it does by protoc's
+ *                                    not say where it is, as it does by protoc's
  *                                    --include_source_info.
  */
 protolink_status protolink_span(
     protolink_pool *pool, const protolink_item *item, int32_t *span, size_t room, size_t *length);
 
 /*
- * THE COMMENTS OF AN ITEM: the one right before it, the one right behind it, and by position those
- * that stand before it by themselves.
+ * THE COMMENTS OF AN ITEM: the one right before it, the one right after it, and by position those
+ * before it by themselves.
  *
  *   PROTOLINK_DONE, PROTOLINK_SHORT  as said under TEXTS.
- *   PROTOLINK_NOT_FOUND              the pool has no such item, it is a package, or its file tells
+ *   PROTOLINK_NOT_FOUND              the pool has no such item, it is a package, or its file has
  *                                    no such comment.
  */
 protolink_status protolink_leading_comments(

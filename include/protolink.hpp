@@ -12,7 +12,7 @@
  * A pool is freed with its scope, and may be moved and not copied, but by `clone`. What is asked of
  * it are small values that know the pool: a Message, a Field, .. They may be copied, and are of use
  * as long as the pool stays where it is and is not cleared. Their indexes and positions are those
- * of protolink.h, whose notes hold here too: what `info` tells, how texts are encoded.
+ * of protolink.h, whose notes hold here too: what `info` has, how texts are encoded.
  *
  * What may be missing comes as a std::optional, a text as a std::string. Where memory is refused
  * for a std::string or a std::vector, C++ decides: without exceptions it ends the program. A list
@@ -123,7 +123,7 @@ template <typename Value, typename Call> std::optional<Value> value_of(Call call
 
 } // namespace detail
 
-/* What stands at the positions from 0 up to a count, made as it is asked for. `Make` makes it of a
+/* What is at the positions from 0 up to a count, made as it is asked for. `Make` makes it of a
    position. */
 template <typename Make> class Range {
 public:
@@ -196,7 +196,7 @@ public:
         return Status(protolink_pool_add_script(&pool_, detail::bytes_of(script), script.size()));
     }
 
-    /* How many faults the reports tell at most, from the next call on. */
+    /* How many faults the reports have at most, from the next call on. */
     Status limit_faults(size_t most) { return Status(protolink_pool_limit_faults(&pool_, most)); }
 
     /* Frees what it owns. */
@@ -219,7 +219,7 @@ public:
         return added;
     }
 
-    /* What the last call tells that was to link files: in lines, and as an object of JSON. */
+    /* The report of the last call that was to link files: in lines, and as an object of JSON. */
     std::string report() const
     {
         return whole([&](auto... to) { return protolink_pool_report(&pool_, to...); });
@@ -304,7 +304,7 @@ private:
     protolink_pool pool_ = PROTOLINK_POOL_EMPTY;
 };
 
-/* What stands in a pool at an index, or at a position of what has an index. */
+/* What is in a pool at an index, or at a position of what has an index. */
 class Item {
 public:
     Item(const Pool &pool, protolink_item item) : pool_(&pool), item_(item) {}
@@ -321,14 +321,14 @@ public:
     /* The bytes of its options: none where it has none. */
     std::string options() const { return text(protolink_options).value_or(std::string()); }
 
-    /* The path in the record of its file, and the place in the source that protolink_span tells. */
+    /* The path in the record of its file, and the place in the source that protolink_span gives. */
     std::vector<int32_t> path() const
     {
         return numbers(protolink_path).value_or(std::vector<int32_t>());
     }
     std::optional<std::vector<int32_t>> span() const { return numbers(protolink_span); }
 
-    /* The comments right before it, right behind it, and those before it by themselves. */
+    /* The comments right before it, right after it, and those before it by themselves. */
     std::optional<std::string> leading_comments() const { return text(protolink_leading_comments); }
     std::optional<std::string> trailing_comments() const
     {
@@ -366,7 +366,7 @@ protected:
         return detail::list_of<int32_t>([&](auto... to) { return call(at(), &item_, to...); });
     }
 
-    /* What a call tells of what has the index. */
+    /* What a call gives of what has the index. */
     template <typename Info, typename Call> Info whole_info(Call call) const
     {
         Info info = {};
@@ -374,7 +374,7 @@ protected:
         return info;
     }
 
-    /* What a call tells of what has the position there. */
+    /* What a call gives of what has the position there. */
     template <typename Info, typename Call> Info part_info(Call call) const
     {
         Info info = {};
@@ -622,7 +622,7 @@ public:
         }, info().extensions);
     }
 
-    /* What stands in it, without what stands in one of its messages. */
+    /* What is declared in it, without what is declared in one of its messages. */
     std::vector<Message> nested_messages() const
     {
         return below<Message>(protolink_message_items, PROTOLINK_MESSAGE);
@@ -736,7 +736,7 @@ public:
         }, info().imports);
     }
 
-    /* What stands in it, and in no message. */
+    /* What is declared in it, and in no message. */
     std::vector<Message> messages() const { return below<Message>(PROTOLINK_MESSAGE); }
     std::vector<Enum> enums() const { return below<Enum>(PROTOLINK_ENUM); }
     std::vector<Service> services() const { return below<Service>(PROTOLINK_SERVICE); }

@@ -1,8 +1,8 @@
 #!/usr/bin/env python3
-"""The name of the shared library, and the binary interface for which it stands: how large the
+"""The name of the shared library, and the binary interface that it names: how large the
 header's structs are, and what its calls take and give.
 
-    python3 abi.py           tells how the header differs from what is stored of the name
+    python3 abi.py           shows how the header differs from what is stored of the name
     python3 abi.py write     stores it in abi.txt
 
 A program that was built for a name must run with each later library of it. So where a struct or a

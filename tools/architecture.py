@@ -1,17 +1,17 @@
 #!/usr/bin/env python3
-"""Checks crates.txt, and the tables of docs/ARCHITECTURE.md: whether all that they name is there.
+"""Checks crates.txt and the tables of docs/inside/ARCHITECTURE.md: whether what they name is there.
 
     python3 architecture.py
     python3 architecture.py --storeys     puts crates.txt and the layers in the order of the storeys
 
-A crate of storey 1 names none, and each other one stands a storey above the highest that it names.
-In crates.txt a line `# storey N` stands before those of a storey, from the lowest on.
+A crate of storey 1 names none, and each other one is a storey above the highest that it names.
+In crates.txt a line `# storey N` is before those of a storey, from the lowest on.
 
 The table of the layers has each crate of crates.txt, in that order. Each rule of the table "Each
 rule twice" has all five columns. Each file that this table and the one of a new rule name is there,
-in the crate of the row or in the one before a colon; a word in brackets behind a file stands in
+in the crate of the row or in the one before a colon; a word in brackets after a file is in
 that file, and any other word in backquotes in some file of src/ or specs/. The counts of files that
-a new rule touches add up to the one that stands above them. What is amiss is told, with status 1.
+a new rule touches add up to the one above them. What is amiss is printed, with status 1.
 """
 
 from __future__ import annotations
@@ -24,7 +24,7 @@ from typing import NamedTuple
 
 CRATES = Path(__file__).resolve().parent.parent / "crates"
 TOP = CRATES.parent
-PAGE = TOP / "docs" / "ARCHITECTURE.md"
+PAGE = TOP / "docs/inside/ARCHITECTURE.md"
 FILE = re.compile(r"([\w*/.-]+\.(?:antt|rt|edit)|(?:src|data)/[\w/]+/)(?: \(([^)]*)\))?")
 
 

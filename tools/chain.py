@@ -3,7 +3,7 @@
 
     python3 chain.py [FILE]     of dist/proofs.times, which tools/check writes, or of another file
 
-The chain ends with the crate that was proved last. Before each crate stands the one of those below
+The chain ends with the crate that was proved last. Before each crate is the one of those below
 it that was proved last, so the crate could not begin earlier. From then on its time counts, a wait
 for a processor included. A line has when a crate began and when it ended, in minutes and seconds
 after the start, the time between, and its name. A crate that an earlier run has proved takes none.

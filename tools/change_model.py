@@ -1,5 +1,5 @@
 #!/usr/bin/env python3
-"""A stand-in for check_descriptors that reports changes by the rules of docs/CHANGES.md.
+"""A model of check_descriptors that reports changes by the rules of docs/CHANGES.md.
 
     python3 change_model.py --against OLD --compatibility full --level source --json NEW
     python3 change_model.py --leave-out field-oneof --against OLD .. NEW

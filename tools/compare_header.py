@@ -9,16 +9,15 @@ Python module (bindings/python/protolink/_library.py). A struct is compared by i
 order, with their types; a slice is a pointer and a length.
 
 Of each look-up, an export that takes a `View`, the header has a function for a const pool, or for
-two: it takes what the look-up takes, passes it a copy of each such pool, and stands in for its
-name. Of each other export that takes a slice it has one too. Both pass no null pointer where a slice begins.
+two: it takes what the look-up takes, passes it a copy of each such pool, and has its name. Of each
+other export that takes a slice it has one too. Both pass no null pointer where a slice begins.
 
 Constants are compared by name and number: the header's with those by which the Rattle code answers
 (statuses, kinds of items, types, labels, versions of the language, the version of the library), all
 of either; and those of the Rust crate and of the Python module, which may lack some, with both.
 
-Tells each difference in a line, and in a last line how much was compared. Exit status: 0 all is the
-same, 1 something differs.
-"""
+Prints each difference on a line, and on a last line how much was compared. Exit status: 0 all is
+the same, 1 something differs."""
 
 from __future__ import annotations
 

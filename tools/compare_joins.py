@@ -1,5 +1,5 @@
 #!/usr/bin/env python3
-"""Compares what the check tells of pairs of real sets that were built apart with what they hold.
+"""Compares what the check reports of pairs of real sets that were built apart with what they hold.
 
     python3 compare_joins.py ../crates/check_descriptors/out/check_descriptors
     python3 compare_joins.py --pairs 100 --root FOLDER PROGRAM
@@ -15,9 +15,9 @@ files, of those that both have where they share any: with another option `go_pac
 message more.
 
 What should be, by docs/CHECK.md: files of one name that are equal but for their source info count
-once, and the verdict is that of protobuf's Python package on all of them. Where some differ, each is
-told on one line, with both sets, in the order of the second; and with `--first` the verdict is that
-of protobuf on the first of each name. Anything else is printed, and is a fault.
+once, and the verdict is that of protobuf's Python package on all of them. Where some differ, each
+has one line, with both sets, in the order of the second; and with `--first` the verdict is that of
+protobuf on the first of each name. Anything else is printed, and is a fault.
 
 The last line counts the pairs: `N passed, M failed`. Exit status: 0 where none failed, or `protoc`
 or protobuf's Python package is missing (protobuf-compiler, libprotobuf-dev and python3-protobuf on

@@ -5,7 +5,7 @@
     tools/definitions.py --check     writes nothing
 
 A crate is a section, in the order of crates.txt, and a module a part of it, in the order of the
-crate's specs/Lib.antt. A definition without a comment is told, with status 1.
+crate's specs/Lib.antt. A definition without a comment is printed, with status 1.
 """
 
 from __future__ import annotations
@@ -24,9 +24,9 @@ DEFINITION = re.compile(
 PREFACE = """\
 # The definitions
 
-The contracts of the public calls cite these definitions. `tools/definitions.py` prints this page of their comments: a section for each crate, a part for each file of its `specs/`, and the public definitions as they stand there. What the rules say to a user stands in [RULES.md](../docs/RULES.md), what a script says and a report tells in [SCRIPT.md](../docs/SCRIPT.md), what the pool, its laws and the program promise by them in [PROVED.md](../docs/PROVED.md), and where each rule is code in [ARCHITECTURE.md](../docs/ARCHITECTURE.md#each-rule-twice).
+The contracts of the public calls cite these definitions. `tools/definitions.py` prints this page of their comments: a section for each crate, a part for each file of its `specs/`, and the public definitions as they stand there. What the rules say to a user is in [RULES.md](../docs/RULES.md), what a script says and a report tells in [SCRIPT.md](../docs/SCRIPT.md), what the pool, its laws and the program promise by them in [CONTRACTS.md](../docs/inside/CONTRACTS.md), and where each rule is code in [ARCHITECTURE.md](../docs/inside/ARCHITECTURE.md#each-rule-twice).
 
-A law is a statement that is proved: those that [PROVED.md](../docs/PROVED.md) lists are contracts of calls, the others are lemmas. A text is a list of bytes. A declaration is a file, or what in it has a full name: a message, a field, a oneof, an enum, a value of an enum, a service, a method or an extension. A test is *exact* if it holds only for equal values; the lines that end so are proved lemmas, which stand among the definitions because the law of an implementation may cite these alone.
+A law is a statement that is proved: those that [CONTRACTS.md](../docs/inside/CONTRACTS.md) lists are contracts of calls, the others are lemmas. A text is a list of bytes. A declaration is a file, or what in it has a full name: a message, a field, a oneof, an enum, a value of an enum, a service, a method or an extension. A test is *exact* if it holds only for equal values; the lines that end so are proved lemmas, which stand among the definitions because the law of an implementation may cite these alone.
 
 Modules whose names end with `Code`, and `Walking`, `Totals`, `Seen` and `Cursor`, tie what the code holds to the definitions. `State` and `Steps` of a pass say what `after`, `kept`, `borrows` and `ready` of its visitor mean; the contract of `build_files` cites none of them.
 """

@@ -1,21 +1,22 @@
 #!/usr/bin/env python3
-"""Tells what protobuf's own pool has of schemas, in the form of `describe` of the crate pool_descriptions.
+"""Prints what protobuf's own pool has of schemas, in the form of `describe` of the crate
+pool_descriptions.
 
     python3 describe_set.py text SOURCE..
     python3 describe_set.py write
     python3 describe_set.py compare
 
-`text` writes the text of sources and of all that they import, behind a line with the counts, as a
+`text` writes the text of sources and of all that they import, after a line with the counts, as a
 row has it. Each fact is asked of the linked descriptors of protobuf's Python package; asked of the
 records are paths, the JSON names and the texts of fractions that were given, and whether a list is
 packed, for which that package has no word. It hands out streams and reserved names as records.
 
 Each file NAME.proto of crates/test_rows/data/items/protoc/ is a row; imported/ there has what they
-import of one another. `write` writes the NAME.script and the NAME.text of each, and `compare` tells
-whether the stored ones are what is made, with status 1 where one is not. A script does not say which
-field is a map, what is deprecated, which names are reserved, and what a method streams: the text of
-a row leaves these out. They were made by protoc
-3.21.12; with another version the files of protobuf may differ.
+import of one another. `write` writes the NAME.script and the NAME.text of each, and `compare` says
+whether the stored ones are what is made, with status 1 where one is not. A script does not say
+which field is a map, what is deprecated, which names are reserved, and what a method streams: the
+text of a row leaves these out. They were made by protoc 3.21.12; with another version the files of
+protobuf may differ.
 
 Needed are protoc, its include directory with google/protobuf/compiler/plugin.proto, and protobuf's
 Python package: protobuf-compiler, libprotoc-dev and python3-protobuf on Debian. That package
@@ -336,7 +337,7 @@ def main() -> None:
     )
     asked = parser.add_subparsers(dest="what", required=True)
     asked.add_parser("write", help="write the files of all rows")
-    asked.add_parser("compare", help="tell which stored files are not what is made")
+    asked.add_parser("compare", help="print which stored files are not what is made")
     text = asked.add_parser("text", help="write the text of sources")
     text.add_argument("sources", nargs="+", metavar="SOURCE")
     text.add_argument("-I", action="append", default=[], dest="directories", metavar="DIR")

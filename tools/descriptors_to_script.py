@@ -18,7 +18,7 @@ cannot say is an error: a name that has a space or a line feed or is ~ or '' its
 with a line feed, and a text that is not UTF-8.
 
 The exit status is 0 where the whole script was written, 1 where something is wrong, and 2 where
-the arguments are. Where something is wrong it is told on the standard error, and no script is
+the arguments are. Where something is wrong, the standard error says it, and no script is
 written.
 """
 
@@ -439,7 +439,7 @@ def argument_parser() -> argparse.ArgumentParser:
         action="append",
         dest="commands",
         metavar="COMMAND",
-        help="a command behind the files, as link or 'find p.M'; may be repeated (default: link)",
+        help="a command after the files, as link or 'find p.M'; may be repeated (default: link)",
     )
     return parser
 

@@ -6,8 +6,8 @@
     tools/fault_table.py --write     puts both into the page, in place of those that are there
 
 A row is a kind: its code, its texts, the words before its second place, and what to do. All are
-read off the code: the texts off crates/pool_faults/src/fault.rt, in which `{..}` stands for a part
-of the fault, and the others off crates/verdict_texts/src/fault_kinds.rt; those of a rule of protoc
+read off the code: the texts off crates/pool_faults/src/fault.rt, in which `{..}` is a part of the
+fault, and the others off crates/verdict_texts/src/fault_kinds.rt; those of a rule of protoc
 off crates/protoc_rules/src/rules.rt.
 """
 

@@ -1,6 +1,6 @@
 #!/usr/bin/env python3
 """Makes a descriptor set of googleapis' files, of which the package golang-google-genproto-dev of
-Debian has the descriptors: each stands in the source that was generated of it, as bytes of gzip.
+Debian has the descriptors: each is in the source that was generated of it, as bytes of gzip.
 
     python3 googleapis.py SET.pb                fetches the package by apt-get
     python3 googleapis.py SET.pb PACKAGE.deb    takes it from there

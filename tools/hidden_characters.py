@@ -6,8 +6,8 @@ specs/Hidden.antt as a definition, src/hidden.rt as code.
     python3 hidden_characters.py --check
 
 The characters are those of Unicode's general categories Cc, Cf, Zl and Zp, its default ignorable
-code points, and the pattern of Braille without a dot, which looks like a space. Perl tells the
-properties. `--check` changes nothing: it tells whether the tables are what is made, with status 1
+code points, and the pattern of Braille without a dot, which looks like a space. Perl has the
+properties. `--check` changes nothing: it says whether the tables are what is made, with status 1
 where they are not.
 """
 

@@ -9,9 +9,9 @@ ctypes alone, beside protobuf's own package. The uses are the examples registry.
 services.cc of bindings/. The files are those of library_speed.py that have services; the registry
 judges 200 versions of a schema, each of which is the last right one with one change.
 
-Told is processor time, of the gateway time by the clock; of each the best of five runs or more. The
+The tables have processor time, of the gateway time by the clock; of each the best of five runs. The
 registry has to take the versions that are right, and services.cc has to print what protobuf's
-package tells of the services: else it is an error.
+package has of the services: else it is an error.
 
 Needed are cargo, g++ and on Debian python3-protobuf. Exit status: 0, or 2 where something could not
 be measured.

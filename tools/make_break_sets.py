@@ -4,8 +4,8 @@
     python3 make_break_sets.py write
     python3 make_break_sets.py compare
 
-The rows stand in crates/test_rows/data/checks. Each of the group breaks is a set of the sources in
-sources, as protoc describes them, with one part of a record changed. Behind each change stands what
+The rows are in crates/test_rows/data/checks. Each of the group breaks is a set of the sources in
+sources, as protoc describes them, with one part of a record changed. After each change is what
 is wanted of it, by docs/RULES.md and docs/CHECK.md: the faults in order, each with its kind, its
 text, the path at which it is, the element, its second place, and the note. Lines and columns are
 those that protoc gives for a path. `write` writes NAME.pb, NAME.text, NAME.json and, where it is

@@ -4,9 +4,9 @@
     python3 make_change_rows.py write
     python3 make_change_rows.py compare
 
-The rows stand in crates/test_rows/data/checks/changes. Each has the sources of an older and of a new
-version, and behind them by hand, by docs/CHANGES.md and docs/CHECK.md, what is told of them: of each
-change its code, its text, the element at which it stands in the new version and in the older one,
+The rows are in crates/test_rows/data/checks/changes. Each has the sources of an older and of a new
+version, and after them by hand, by docs/CHANGES.md and docs/CHECK.md, what is reported: of each
+change its code, its text, the element at which it is in the new version and in the older one,
 and what to do. Lines and columns are those that protoc gives. `write` writes of each row
 NAME.old.pb, NAME.new.pb, NAME.args, NAME.text, NAME.json and, where it is not 0, NAME.status.
 `compare` ends with status 1 where a stored file is another.

@@ -1,15 +1,15 @@
 #!/usr/bin/env python3
-"""Makes the rows of what protoc refuses besides, or finds that they are as stored.
+"""Makes the rows of what protoc also refuses, or finds that they are as stored.
 
     python3 make_strict_rows.py write
     python3 make_strict_rows.py compare
 
-The rows stand in crates/test_rows/data/checks/strict. Each is a set of strict_rules.txt that breaks a
-rule alone, or a change of the sources of make_break_sets.py, and is checked with `--strict`. Behind
-it stands by hand what is wanted of it, by docs/RULES.md and docs/CHECK.md: of each fault its code,
-its text, the path at which it is, the element, its second place, and the note. `write` writes
-NAME.pb, NAME.args, NAME.text, NAME.json and NAME.status. `compare` ends with status 1 where a stored
-file is another.
+The rows are in crates/test_rows/data/checks/strict. Each is a set of strict_rules.txt that breaks a
+rule alone, or a change of the sources of make_break_sets.py, and is checked with `--strict`. After
+it is by hand what is wanted of it, by docs/RULES.md and docs/CHECK.md: of each fault its code, its
+text, the path at which it is, the element, its second place, and the note. `write` writes NAME.pb,
+NAME.args, NAME.text, NAME.json and NAME.status. `compare` ends with status 1 where a stored file is
+another.
 
 Needed are protoc and protobuf's Python package: protobuf-compiler and python3-protobuf on Debian.
 That package serves the system's own Python, /usr/bin/python3.

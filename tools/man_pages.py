@@ -1,9 +1,9 @@
-"""Manual pages and completions of bash, made of texts that stand: of `check_descriptors --help`, of
-docs/CHECK.md and docs/SCRIPT.md, and of the header.
+"""Manual pages and completions of bash, made of texts that are there: of `check_descriptors
+--help`, of docs/CHECK.md and docs/SCRIPT.md, and of the header.
 
 A page of Markdown becomes a manual page by the forms that the documents have: headings, paragraphs,
 lists, tables, indented blocks, and in a line code, bold words and links, of which the words stay.
-The comments of the header become text, and its declarations stand as they are.
+The comments of the header become text, and its declarations stay as they are.
 """
 
 from __future__ import annotations
@@ -113,6 +113,12 @@ def blocks(text: str) -> Iterator[tuple[str, list[str]]]:
             run.append(line)
     if run:
         yield before, run
+
+
+def code(text: str) -> list[str]:
+    """The indented blocks of a page, each with the empty lines in it."""
+    runs = [run for kind, run in blocks(text) if kind == "code"]
+    return ["\n".join(line[4:] for line in run).rstrip("\n") + "\n" for run in runs]
 
 
 def cells(row: str) -> list[str]:

@@ -1,4 +1,4 @@
-"""What the tools want of a machine: programs, files and packages, and the packages of Debian that
+"""What the tools need on a machine: programs, files and packages, and the packages of Debian that
 have them."""
 
 from __future__ import annotations

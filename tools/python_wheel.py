@@ -1,4 +1,4 @@
-"""The wheel of the Python module: an archive that pip installs as it is. What it tells of itself is
+"""The wheel of the Python module: an archive that pip installs as it is. What it says of itself is
 that of bindings/python/pyproject.toml."""
 
 from __future__ import annotations

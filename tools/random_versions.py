@@ -1,6 +1,6 @@
 """Random versions of a schema, and random changes of them.
 
-Gentle changes are those of which often nothing is told: kinds get wider, fields come, and go with
+Gentle changes often change nothing on the wire: kinds get wider, fields come, and go with
 their numbers reserved. Wild ones are all others.
 """
 

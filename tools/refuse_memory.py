@@ -7,10 +7,10 @@ checks each ending.
     python3 refuse_memory.py run ../crates/check_descriptors/out/check_descriptors SET -- --list -
 
 `trials` runs each trial of crates/test_trials. Requests count from the mark before its call to
-the one behind it. A refused run must tell that memory was refused and that all is right, and one
+the one after it. A refused run must say that memory was refused and that all is right, and one
 without a refusal must write the line that is stored beside the program's sources.
 
-`run` runs a program, with the arguments behind `--`, on a file as its standard input, in a folder
+`run` runs a program, with the arguments after `--`, on a file as its standard input, in a folder
 of its own. Requests count from the beginning of the program. A refused run must end with status 3,
 write nothing and leave no file, and one without a refusal must write what the program writes when
 it is left alone, to its outputs and to the files of the folder.
@@ -21,7 +21,7 @@ the request was for a block that has room enough already, as when it is to shrin
 program asked once more and was given the room, as the library's `collect` does, so that there was
 one request more than without a refusal. With --first, --every and --last some are left out: all of
 the first and of the last are refused, and of those between them each so many. With --behind a
-refusal lasts: all requests behind the refused one are refused too, up to the mark behind the call.
+refusal lasts: all requests after the refused one are refused too, up to the mark after the call.
 A run is wrong if it is ended by a signal, ends otherwise than it must, or leaves a block of memory
 that it was given.
 
@@ -309,10 +309,10 @@ def argument_parser() -> argparse.ArgumentParser:
     parser.add_argument("program", metavar="PROGRAM", help="the built program")
     parser.add_argument("input", nargs="?", metavar="FILE", help="the standard input for `run`")
     parser.add_argument("--first", type=int, default=2000, help="refuse each of the first so many")
-    parser.add_argument("--every", type=int, default=97, help="and each so many-th behind them")
+    parser.add_argument("--every", type=int, default=97, help="and each so many-th after them")
     parser.add_argument("--last", type=int, default=20, help="and each of the last so many")
-    parser.add_argument("--behind", action="store_true", help="refuse those behind a refusal too")
-    parser.add_argument("--status", type=int, help="which a refused `run` may end with, besides 3")
+    parser.add_argument("--behind", action="store_true", help="refuse those after a refusal too")
+    parser.add_argument("--status", type=int, help="which a refused `run` may also end with")
     parser.add_argument("--valgrind", type=int, default=0, metavar="N", help="see above")
     return parser
 

@@ -13,7 +13,7 @@ valgrind's callgrind counts them; and the requests for memory and the peak of th
 whole program, as its dhat counts them. Of sets as bytes: the instructions of what reads them and
 of what writes them, in the example of sets; and of the calls of the library for C that link a set,
 write it, compare it with itself, and free it (library_speed.py has its peers). Instructions repeat
-themselves, whatever else a machine does. On the standard error each row is told beside the figures
+themselves, whatever else a machine does. On the standard error each row is beside the figures
 that docs/SPEED.md has, which are of the last tree.
 
 With --short the instructions of `build_files` alone are counted, and of `add_set`, of six rows in

@@ -5,11 +5,11 @@
     python3 trusted.py --check
 
 The page has four lists. The first is of the functions of C whose contracts the proof of a program
-or of the library reaches: `rattle check --list-axioms` tells them. The others are of the files that
+or of the library reaches: `rattle check --list-axioms` lists them. The others are of the files that
 no contract binds to the machine, of the functions that are proved by hand, and of the places where
 code is `unsafe`: they are read off the files.
 
-`--check` tells where the page is another than what is printed, with status 1. The last line counts:
+`--check` shows where the page is another than what is printed, with status 1. The last line counts:
 `N passed, M failed, K left out`.
 
 The three programs and the library are checked over the libraries of crates that `rt ci` left, which
@@ -62,12 +62,12 @@ HEAD = """\
 A proof is worth what it rests on. Those of this repository rest on what this page names, and on nothing else. `tools/trusted.py` prints the page. The gate compares it with what is printed.
 
 - **The toolchain.** Its checker judges the proofs, by its model of what code does. Its compiler makes machine code of what was proved, by LLVM or by a back end of its own. No proof of this repository speaks of either ([which line of the toolchain](../README.md#install-it)).
-- **The definitions.** A contract says that a call does what a definition says. Whether that is what protobuf means, people judge who read it. [PROVED.md](PROVED.md) names the definitions of each call.
+- **The definitions.** A contract says that a call does what a definition says. Whether that is what protobuf means, people judge who read it. [CONTRACTS.md](inside/CONTRACTS.md) names the definitions of each call.
 - **Functions of C.** Rattle's standard library calls them. Each has a contract, which says what the C library or the operating system does. Nothing checks that they do so. They are [listed below](#functions-of-c).
 - **Devices.** What a program reads and writes goes through a few files that no contract binds to the machine. They are tested, and [listed below](#devices).
 - **Callers in C.** They keep to what [protolink.h](../include/protolink.h) asks of them. That header with its inline functions, [protolink.hpp](../include/protolink.hpp), and the bindings in Rust and Python are tested and not proved ([C.md](C.md#what-is-trusted)).
 
-Nothing is assumed besides. `rt ci` refuses a proof with a hole, and an axiom or a function of C that this repository declares.
+Nothing else is assumed. `rt ci` refuses a proof with a hole, and an axiom or a function of C that this repository declares.
 
 - [Functions of C](#functions-of-c)
 - [Devices](#devices)
@@ -84,7 +84,7 @@ The standard library declares many more. What is handed to users reaches these {
 DEVICES_HEAD = """\
 ## Devices
 
-The contract of a program's `run` speaks of devices: of the words and bytes that these say they read and wrote. No contract of the standard library says which arguments a program has, what a file or a stream holds, or what was written. So nothing proves that these {count} files, of {lines} lines together, hand on what the system gave and write what they are handed. Nor does anything prove it of the calls of `std::env`, `std::fs` and `std::io` that they make. [PROVED.md](PROVED.md#descriptor_check-a-run-of-the-check) says what is proved of the programs all the same. The files are proved as all code is: they are safe, they end, and each function does what its contract says. The stored runs and `tools/test_tools.py` test the rest.
+The contract of a program's `run` speaks of devices: of the words and bytes that these say they read and wrote. No contract of the standard library says which arguments a program has, what a file or a stream holds, or what was written. So nothing proves that these {count} files, of {lines} lines together, hand on what the system gave and write what they are handed. Nor does anything prove it of the calls of `std::env`, `std::fs` and `std::io` that they make. [CONTRACTS.md](inside/CONTRACTS.md#descriptor_check-a-run-of-the-check) says what is proved of the programs all the same. The files are proved as all code is: they are safe, they end, and each function does what its contract says. The stored runs and `tools/test_tools.py` test the rest.
 
 | file | lines | what it does |
 |---|---|---|
@@ -99,7 +99,7 @@ Of any other function the checker makes the frame of the proof, and the files of
 UNSAFE = """\
 ## Unsafe code
 
-`unsafe` stands in these places, and in no other. Each is proved. The exports of the library for C bear the word too, in `#[unsafe(no_mangle)]`, since the name of an export could be another's.
+`unsafe` is in these places, and in no other. Each is proved. The exports of the library for C bear the word too, in `#[unsafe(no_mangle)]`, since the name of an export could be another's.
 """
 
 

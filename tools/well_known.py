@@ -17,19 +17,19 @@ The script declares them, links them in one batch, and asks. The report is compu
 protoc wrote, by going over its records: no linker is run. This is right for these files alone:
 they are known to break no rule, and protoc has written each type name as a full name.
 
-The set has the same files as bytes. What is told of it is that it is written as it was read, that
+The set has the same files as bytes. The report says that it is written as it was read, that
 a pool that is stored as a set is loaded as an equal pool, and what the files declare. Before it
-stands what is told of two files that are built by hand, which was written by hand too.
+is the report on two files that are built by hand, which was written by hand too.
 
 The set with each part of a record filled is what protoc makes of crates/test_trials/data, the
-file that imports the others first. Besides it has options of oneofs and of extension ranges, which
+file that imports the others first. It also has options of oneofs and of extension ranges, which
 no source can set without options of its own, the syntax, and a field that says that it is optional
 in proto3.
 
 The set that is accepted is that of the same files, and the one that is refused is made of the text
 beside it.
 
-`compare` tells whether the stored files are what is made, with status 1 where one is not. The files
+`compare` says whether the stored files are what is made, with status 1 where one is not. The files
 that are stored were made by protoc 3.21.12; with another version its files may differ.
 
 Needed are protoc, its include directory with google/protobuf/compiler/plugin.proto, and protobuf's

@@ -240,7 +240,7 @@ abbrev pub with_files : Job → Request
 with_files job = if length job.files == 0 then Wrong (codes "no file is named")
     else (if asks_too_much job.wanted
     then Wrong
-    (codes "a format for programs tells the verdict alone: leave out --list and --describe")
+    (codes "a format for programs shows the verdict alone: leave out --list and --describe")
     else (if compares_nothing job
     then Wrong (codes "--compatibility and --level are about older versions: give --against")
     else Check job))

@@ -12,7 +12,7 @@ described p names = flat_map (name_text p) names
 -- what is wrong with a name that means nothing, and what to do
 abbrev pub unknown_words : List ℕ → List ℕ
 unknown_words name = codes "--describe '" ++ (name
-    ++ codes "': nothing has this full name, and no file; --list tells the names")
+    ++ codes "': nothing has this full name, and no file; --list shows the names")
 
 -- a line of complaint of a name by what it means, if that is nothing
 abbrev pub unknown_by : List ℕ → List ℕ → List ℕ

@@ -22,9 +22,7 @@ usage: check_descriptors [--strict] [--json] [--max-faults N] [--linked OUT] FIL
 
 /// What the program does, and what its arguments mean.
 pub(crate) const HELP: &str = "
-Links descriptor sets as one batch, and tells whether they break a rule, and what they change of \
-older
-versions.
+Links descriptor sets as one batch. Reports what breaks a rule, and what changes of older versions.
 
     protoc --include_imports --include_source_info -o set.pb shop/order.proto
     check_descriptors set.pb
@@ -32,30 +30,29 @@ versions.
 
 FILE             a descriptor set, as protoc writes it; - is the standard input. Files of one name
                  that are equal but for their source info count once
---format FORMAT  one of text, json, github, gitlab, sarif: how the verdict is told (text)
+--format FORMAT  one of text, json, github, gitlab, sarif: the form of the report (text)
 --json           the same as --format json
---strict         refuse besides what protoc refuses by its own rules, where the rules of the linker
+--strict         also refuse what protoc refuses by its own rules, where the rules of the linker
                  are kept
---max-faults N   tell at most N faults, and as many changes of each older version (100)
---first          of files of one name that differ take the first, as protoc does, and tell on the
+--max-faults N   report at most N faults, and as many changes of each older version (100)
+--first          of files of one name that differ take the first, as protoc does, and list on the
                  standard error which are passed over
---list           of an accepted batch, tell each declaration: its kind and its full name
---describe NAME  tell what a full name, or the name of a file, means in it; may be repeated
+--list           of an accepted batch, list each declaration: its kind and its full name
+--describe NAME  show what a full name, or the name of a file, means in it; may be repeated
 --linked OUT     write the set of its linked files to OUT, whole or not at all
---against OLD    tell what it changes of an older version, the set OLD; may be repeated, each \
-by itself
+--against OLD    report what it changes of an older version, the set OLD; may be repeated
 --compatibility WHICH  backward (the default): it reads what the older version writes; forward:
                  the older version reads what it writes; full: both
---level LEVEL    tell changes by which bytes are read otherwise, or calls: wire (the default);
-                 texts of JSON besides: json; code that is made of the schema besides: source
+--level LEVEL    report changes by which bytes or calls are read otherwise: wire (the default);
+                 also texts of JSON: json; also code that is made of the schema: source
 --OPTION=VALUE   is the same as --OPTION VALUE
---               what stands behind it is a FILE, also if it begins with a dash
---help           tell this, as -h does
---version        tell the version
+--               what follows it is a FILE, also if it begins with a dash
+--help           print this, as -h does
+--version        print the version
 
 exit status: 0 accepted, and nothing changes; 1 refused, or something changes; 2 no verdict, as of
-wrong arguments, what is no set, or an older version that is refused; 3 memory was refused; 4 what
-there is to tell could not be written
+wrong arguments, what is no set, or an older version that is refused; 3 out of memory; 4 the
+output could not be written
 ";
 
 /// What the program does, and its arguments.
@@ -480,7 +477,7 @@ fn with_files(alloc: Global, job: Job) -> Result<Request, AllocError>
     if asks_too_much(&job.wanted) {
         return wrong(
             alloc,
-            "a format for programs tells the verdict alone: leave out --list and --describe",
+            "a format for programs shows the verdict alone: leave out --list and --describe",
         );
     }
     if compares_nothing(&job) {

@@ -64,6 +64,6 @@ fn unknown_words(alloc: Global, name: &str) -> Result<String, AllocError>
     ensures { IfOk result (λ s. string_bytes s ≡ spec.unknown_words name.now) }
 {
     format!(in alloc;
-        "--describe '{name}': nothing has this full name, and no file; --list tells the names"
+        "--describe '{name}': nothing has this full name, and no file; --list shows the names"
     )
 }

@@ -42,7 +42,7 @@ asks_too_much job = job.wanted.lists || (not (length job.wanted.names == 0)
 -- what is wrong with such a job
 abbrev pub too_much_words : List ℕ
 too_much_words =
-    codes "a plugin tells the verdict alone: leave out list, describe, linked and names of files"
+    codes "a plugin shows the verdict alone: leave out list, describe, linked and names of files"
 
 -- the error is that of the files of a request against older versions, which have the names that a
 -- job has for them, in their order, all of them

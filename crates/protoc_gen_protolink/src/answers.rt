@@ -57,7 +57,7 @@ fn error_for_job<D: PluginDevices>(
 {
     if asks_too_much(job) {
         let words =
-            "a plugin tells the verdict alone: leave out list, describe, linked and names of files";
+            "a plugin shows the verdict alone: leave out list, describe, linked and names of files";
         return Ok(Some(Text::from_str(alloc, words)?));
     }
     match read_olders(alloc, devices, job.against.as_slice()) {
