@@ -41,7 +41,7 @@ PATTERNS = {word: re.compile(rf"\b(?:{found})\b", re.IGNORECASE) for word, found
 BOUNDS = {"pages": 75, "help": 2, "headers": 0, "texts": 14}
 """How many each group may have."""
 
-HELP = re.compile(r'^pub const HELP: &str = ("(?:[^"\\]|\\.)*");', re.MULTILINE | re.DOTALL)
+HELP = re.compile(r'^pub(?:\(crate\))? const HELP: &str = ("(?:[^"\\]|\\.)*");', re.MULTILINE | re.DOTALL)
 """The help of a program, in its code."""
 
 TOKEN = re.compile(r"//[^\n]*|'(?:[^'\\\n]|\\.[^'\n]*)'|b?\"(?:[^\"\\]|\\.)*\"", re.DOTALL)
