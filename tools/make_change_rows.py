@@ -1605,7 +1605,7 @@ def last_line(made: Made, row: Row, direction: str, changes: list[Change], untol
     """The line that counts the changes of a direction."""
     level = row.level or "wire"
     front = f"changed: {counted(len(changes), 'change')}" if changes else "unchanged"
-    behind = f", of which {untold} are not told" if untold else ""
+    behind = f", of which {untold} are not shown" if untold else ""
     behind += "".join(f"; {n} at {name}" for name, n in beyond(row, direction).items() if n)
     return f"{front} at {level} against {made.against}, {direction}{behind}\n"
 

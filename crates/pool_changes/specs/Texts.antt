@@ -30,7 +30,7 @@ count_words (suc n) = codes "changed: " ++ (decimal (suc n) ++ (codes " " ++ cha
 -- how many of them are not told, if any
 unfoldable pub untold_words : ℕ → List ℕ
 untold_words zero = []
-untold_words (suc n) = codes ", of which " ++ (decimal (suc n) ++ codes " are not told")
+untold_words (suc n) = codes ", of which " ++ (decimal (suc n) ++ codes " are not shown")
 
 -- how many changes there are, at which level, and against which older version
 abbrev pub compared_words : ToldChanges → List ℕ

@@ -37,7 +37,7 @@ fn untold_words(alloc: Global, untold: usize) -> Result<String, AllocError>
     if untold == 0 {
         return Ok(String::new(alloc));
     }
-    format!(in alloc; ", of which {untold} are not told")
+    format!(in alloc; ", of which {untold} are not shown")
 }
 
 /// How many changes there are, at which level, and against which older version.
