@@ -93,10 +93,16 @@ template <typename Element, typename Call> std::optional<std::vector<Element>> l
     return list;
 }
 
-/* The same as a text. */
-template <typename Call> std::optional<std::string> text_of(Call call)
+/* How much room most names have, and most texts of changes. What is spared of a text is given back
+   where it is more than the last of these. */
+constexpr size_t name_room = 64;
+constexpr size_t changes_room = 16384;
+constexpr size_t spare_room = 1024;
+
+/* The same as a text, for which there is some room at first. */
+template <typename Call> std::optional<std::string> text_of(Call call, size_t room = name_room)
 {
-    std::string text(64, '\0');
+    std::string text(room, '\0');
     size_t length = 0;
     const auto once = [&] {
         return call(reinterpret_cast<uint8_t *>(&text[0]), text.size(), &length);
@@ -109,6 +115,8 @@ template <typename Call> std::optional<std::string> text_of(Call call)
     if (status != PROTOLINK_DONE)
         return std::nullopt;
     text.resize(length);
+    if (room > length + spare_room)
+        text.shrink_to_fit();
     return text;
 }
 
@@ -162,10 +170,11 @@ public:
     Pool() = default;
     Pool(const Pool &) = delete;
     Pool &operator=(const Pool &) = delete;
-    Pool(Pool &&other) noexcept : pool_(other.pool_) { other.pool_.at = nullptr; }
+    Pool(Pool &&other) noexcept : Pool() { *this = std::move(other); }
     Pool &operator=(Pool &&other) noexcept
     {
         std::swap(pool_.at, other.pool_.at);
+        std::swap(linked_room_, other.linked_room_);
         return *this;
     }
     ~Pool() { protolink_pool_clear(&pool_); }
@@ -174,11 +183,13 @@ public:
        of a script. */
     Status add_set(std::string_view bytes)
     {
-        return Status(protolink_pool_add_set(&pool_, detail::bytes_of(bytes), bytes.size()));
+        const uint8_t *at = detail::bytes_of(bytes);
+        return grown(protolink_pool_add_set(&pool_, at, bytes.size()), bytes.size());
     }
     Status add_file(std::string_view bytes)
     {
-        return Status(protolink_pool_add_file(&pool_, detail::bytes_of(bytes), bytes.size()));
+        const uint8_t *at = detail::bytes_of(bytes);
+        return grown(protolink_pool_add_file(&pool_, at, bytes.size()), bytes.size());
     }
     Status add_files(const std::vector<std::string_view> &files)
     {
@@ -188,19 +199,26 @@ public:
             bytes.append(file);
             lens.push_back(file.size());
         }
-        return Status(protolink_pool_add_files(
-            &pool_, detail::bytes_of(bytes), bytes.size(), lens.data(), lens.size()));
+        const uint8_t *at = detail::bytes_of(bytes);
+        const protolink_status status =
+            protolink_pool_add_files(&pool_, at, bytes.size(), lens.data(), lens.size());
+        return grown(status, bytes.size());
     }
     Status add_script(std::string_view script)
     {
-        return Status(protolink_pool_add_script(&pool_, detail::bytes_of(script), script.size()));
+        const uint8_t *at = detail::bytes_of(script);
+        return grown(protolink_pool_add_script(&pool_, at, script.size()), script.size());
     }
 
     /* How many faults the reports have at most, from the next call on. */
     Status limit_faults(size_t most) { return Status(protolink_pool_limit_faults(&pool_, most)); }
 
     /* Frees what it owns. */
-    void clear() { protolink_pool_clear(&pool_); }
+    void clear()
+    {
+        protolink_pool_clear(&pool_);
+        linked_room_ = 0;
+    }
 
     /* A copy, or none where memory was refused. */
     std::optional<Pool> clone() const
@@ -208,6 +226,7 @@ public:
         Pool copy;
         if (protolink_pool_clone(&pool_, &copy.pool_) != PROTOLINK_DONE)
             return std::nullopt;
+        copy.linked_room_ = linked_room_;
         return copy;
     }
 
@@ -234,16 +253,18 @@ public:
         const Pool &older, Level level = Level::wire,
         Compatibility compatibility = Compatibility::backward) const
     {
-        return detail::text_of([&](auto... to) {
+        const auto call = [&](auto... to) {
             return protolink_pool_changes(
                 &pool_, &older.pool_, uint32_t(level), uint32_t(compatibility), to...);
-        });
+        };
+        return detail::text_of(call, detail::changes_room);
     }
 
     /* All linked files, as the bytes of a FileDescriptorSet; none where memory was refused. */
     std::optional<std::string> linked() const
     {
-        return detail::text_of([&](auto... to) { return protolink_pool_linked(&pool_, to...); });
+        const auto call = [&](auto... to) { return protolink_pool_linked(&pool_, to...); };
+        return detail::text_of(call, linked_room_);
     }
 
     /* How much it has of each kind that has indexes. */
@@ -301,7 +322,16 @@ private:
         return item->index;
     }
 
+    /* Notes how long the linked files about are: as long as the bytes of those that were added. */
+    Status grown(protolink_status status, size_t len)
+    {
+        if (status == PROTOLINK_DONE && added().passed_over == 0)
+            linked_room_ += len;
+        return Status(status);
+    }
+
     protolink_pool pool_ = PROTOLINK_POOL_EMPTY;
+    size_t linked_room_ = 0;
 };
 
 /* What is in a pool at an index, or at a position of what has an index. */

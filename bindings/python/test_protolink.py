@@ -16,13 +16,18 @@ import json
 import math
 import os
 import pickle
+import random
 import re
+import signal
 import subprocess
 import sys
 import tempfile
 import textwrap
 import threading
+import time
+import traceback
 import unittest
+import warnings
 import weakref
 from collections.abc import Callable, Iterator
 from pathlib import Path
@@ -195,6 +200,68 @@ def tour() -> protolink.Pool:
 
 WAIT = 60
 """How many seconds a thread may take that waits for nothing for ever."""
+
+CHANGES: list[Callable[[protolink.Pool], object]] = [
+    lambda pool: pool.add_script("file late.proto\nend\n"),
+    lambda pool: pool.limit_faults(7),
+    lambda pool: pool.close(),
+]
+"""Calls that change a pool."""
+
+ORDER = shop().linked()
+"""The set of shop()."""
+
+MOMENTS, MOST_SECONDS = 20_000, 20
+"""At how many moments an exception is thrown, and how long that may take."""
+
+
+class Thrown(Exception):
+    """What a handler of signals throws."""
+
+
+class Lying(bytes):
+    """Bytes that say another length than they have."""
+
+    def __len__(self) -> int:
+        return 1_000_000
+
+
+def with_alarm(call: Callable[[], object], seconds: float, handler: Callable[[], object]) -> None:
+    """Makes a call. Some seconds after it has begun a handler of signals is called, if it lasts."""
+    signal.signal(signal.SIGALRM, lambda *_: handler())
+    signal.setitimer(signal.ITIMER_REAL, max(seconds, 1e-6))
+    call()
+    signal.setitimer(signal.ITIMER_REAL, 0)
+
+
+def throw() -> None:
+    raise Thrown
+
+
+def has_thrown(call: Callable[[], object], seconds: float) -> bool:
+    """The same with a handler that throws: whether it did."""
+    try:
+        with_alarm(call, seconds, throw)
+        return False
+    except Thrown:
+        return True
+
+
+def end_of_child(call: Callable[[], object]) -> int:
+    """How a child of a fork ends that makes a call: 0 where it is done in time."""
+    with warnings.catch_warnings():
+        warnings.simplefilter("ignore", DeprecationWarning)
+        child = os.fork()
+    if child == 0:
+        try:
+            signal.signal(signal.SIGALRM, signal.SIG_DFL)
+            signal.alarm(WAIT)
+            call()
+            os._exit(0)
+        except BaseException:
+            traceback.print_exc()
+        os._exit(1)
+    return os.waitpid(child, 0)[1]
 
 
 def look_ups(
@@ -463,6 +530,44 @@ class Descriptors(unittest.TestCase):
             outer.fields
         with self.assertRaises(KeyError):
             pool.file("tour.proto")
+
+    def test_a_descriptor_of_a_pool_that_was_closed_answers_nothing(self) -> None:
+        """Also what it was asked before, and also where the pool is filled again."""
+        pool = tour()
+        outer, service = pool.message("tour.Outer"), pool.service("tour.Shop")
+        self.assertEqual((outer.name, outer.fields[3].index), ("Outer", 3))
+        items = [outer, outer.file, *self.everything(outer.file)]
+        asked = [(it, name) for it in items for name in self.answers(it)]
+        for item, name in asked[:: len(asked) // 50]:
+            getattr(item, name)
+        pool.close()
+        for refill in (None, SHOP, TOUR):
+            if refill is not None:
+                pool.add_script(refill)
+            for item, name in asked:
+                with self.subTest(f"{type(item).__name__}.{name}"):
+                    with self.assertRaisesRegex(LookupError, "the pool was closed"):
+                        getattr(item, name)
+            for call in (lambda: outer.field(1), lambda: service.method("Get")):
+                with self.assertRaisesRegex(LookupError, "the pool was closed"):
+                    call()
+            self.assertEqual(repr(outer), "<protolink.Descriptor of no pool any more>")
+        self.assertEqual(pool.message("tour.Outer").name, "Outer")
+        self.assertNotEqual(pool.message("tour.Outer"), outer)
+
+    @staticmethod
+    def answers(item: object) -> list[str]:
+        """The properties of a descriptor, but those of which the pool is not asked: they are none,
+        or descriptors, which ask it then."""
+        unasked = {
+            protolink.FieldDescriptor: {"containing_type", "extension_scope"},
+            protolink.ExtensionDescriptor: {"containing_oneof"},
+            protolink.OneofDescriptor: {"containing_type"},
+            protolink.EnumValueDescriptor: {"type"},
+            protolink.MethodDescriptor: {"containing_service"},
+        }.get(type(item), set())
+        told = {name: it for class_ in type(item).__mro__ for name, it in vars(class_).items()}
+        return sorted({name for name in told if isinstance(told[name], property)} - unasked)
 
 
 class Pools(unittest.TestCase):
@@ -769,7 +874,7 @@ class Pools(unittest.TestCase):
         def look_up() -> None:
             found.extend(call() for call in look_ups(pool, outer, shop_))
 
-        with pool._core._lock:
+        with pool._core._turns.lock:
             thread = threading.Thread(target=look_up, daemon=True)
             thread.start()
             thread.join(WAIT)
@@ -869,24 +974,29 @@ class Pools(unittest.TestCase):
         for call in (fail, lambda *_: pool.message("shop.Order") and fail()):
             with self.assertRaises(Ended):
                 pool._core.add(call, b"")
-            self.assertEqual(pool._core._begun, pool._core._ended)
+            self.assertIsNotNone(pool._core._calm)
             self.assertEqual(pool.message("shop.Order").fields[0].name, "id")
         pool.add_script(TOUR)
         self.assertEqual(len(pool), 3)
 
-    def test_a_change_within_a_change_leaves_the_pool_hidden(self) -> None:
+    def test_a_change_within_a_change_is_refused(self) -> None:
         """As one in a handler of signals: the outer one has the pool for itself to its end."""
         pool, seen = shop(), []
 
         def add_twice(*told: object) -> int:
-            pool.add_script("file inner.proto\nend\n")
+            for change in CHANGES:
+                with self.assertRaisesRegex(RuntimeError, "within a call that changes it"):
+                    change(pool)
+            seen.append(pool._core._view.at)
+            self.assertEqual(pool.find("shop.Order").kind, "message")
+            self.assertEqual(len(pool.clone()), 2)
             seen.append(pool._core._view.at)
             return int(protolink._library.lib.pool_add_script(*told))
 
         pool._core.add(add_twice, b"file outer.proto\nend\n")
-        self.assertEqual(seen, [None])
+        self.assertEqual(seen, [None, None])
         self.assertIsNotNone(pool._core._view.at)
-        self.assertEqual([it.name for it in pool.files()[2:]], ["inner.proto", "outer.proto"])
+        self.assertEqual([it.name for it in pool.files()[2:]], ["outer.proto"])
 
     def test_without_a_lock_of_the_interpreter_look_ups_wait(self) -> None:
         pool = protolink.pool.pool_of(protolink._core.CoreInTurn())
@@ -900,7 +1010,7 @@ class Pools(unittest.TestCase):
         self.assertIs(type(pool.clone()._core), protolink._core.CoreInTurn)
         done = threading.Event()
         thread = threading.Thread(target=lambda: len(pool) and done.set(), daemon=True)
-        with pool._core._lock:
+        with pool._core._turns.lock:
             thread.start()
             self.assertFalse(done.wait(0.02))
         self.assertTrue(done.wait(WAIT))
@@ -970,6 +1080,326 @@ class Pools(unittest.TestCase):
 
     def test_the_version_is_told(self) -> None:
         self.assertRegex(protolink.version(), r"^\d+\.\d+\.\d+$")
+
+
+class Signals(unittest.TestCase):
+    """What handlers of signals do while their thread is in a call of a pool."""
+
+    def setUp(self) -> None:
+        """Keeps quiet of what is thrown in `__del__`, where the interpreter passes it over."""
+        was, hook = signal.getsignal(signal.SIGALRM), sys.unraisablehook
+        sys.unraisablehook = lambda told: None if told.exc_type is Thrown else hook(told)
+        self.addCleanup(setattr, sys, "unraisablehook", hook)
+        self.addCleanup(signal.signal, signal.SIGALRM, was)
+        self.addCleanup(signal.setitimer, signal.ITIMER_REAL, 0)
+
+    def test_an_exception_at_any_moment_leaves_the_pool_usable(self) -> None:
+        """Of a handler that throws. The moments are by chance, and in each call as many."""
+        calls = [
+            *CHANGES,
+            self.refuse,
+            lambda pool: pool.linked(),
+            lambda pool: pool.clone(),
+            lambda pool: pool.changes(pool),
+            lambda pool: pool.find("p.None") or pool.message("p.M1").fields,
+        ]
+        lasts = [self.seconds(call) for call in calls]
+        thrown, moments, begun, chance = 0, 0, time.monotonic(), random.Random(1)
+        while moments < MOMENTS and time.monotonic() < begun + MOST_SECONDS:
+            at, pool = moments % len(calls), self.pool()
+            call = calls[at]
+            thrown += has_thrown(lambda: call(pool), chance.random() * lasts[at])
+            with_alarm(lambda: self.try_all(pool), WAIT, lambda: self.fail("a call does not end"))
+            moments += 1
+        if moments < MOMENTS:
+            print(f"{moments:,} moments in {MOST_SECONDS} seconds", file=sys.stderr)
+        self.assertGreater(thrown, moments // 10)
+
+    @staticmethod
+    def pool() -> protolink.Pool:
+        pool = protolink.Pool()
+        fields = "".join(f"message M{n}\nfield id 1 optional int64 ~ ~\nend\n" for n in range(25))
+        pool.add_script(f"file a.proto\npackage p\n{fields}end\n")
+        return pool
+
+    def refuse(self, pool: protolink.Pool) -> None:
+        with self.assertRaises(protolink.Refused):
+            pool.add_script("file b.proto\nimport c.proto\nend\n")
+
+    def seconds(self, call: Callable[[protolink.Pool], object]) -> float:
+        """About how long a call takes: the least of some."""
+        times = []
+        for pool in [self.pool() for _ in range(9)]:
+            begun = time.perf_counter()
+            call(pool)
+            times.append(time.perf_counter() - begun)
+        return min(times)
+
+    def try_all(self, pool: protolink.Pool) -> None:
+        """Tries a pool after an exception, which may have closed it."""
+        self.assertIsNone(pool.find("p.N"))
+        if pool.find("p.M2") is not None:
+            self.assertEqual(pool.message("p.M2").fields[0].name, "id")
+        self.assertEqual(pool.add_set(ORDER), (2, 0, 0))
+        self.assertEqual(pool.message("shop.Order").name, "Order")
+        pool.close()
+        self.assertEqual(len(pool), 0)
+        self.assertEqual(pool.add_set(ORDER), (2, 0, 0))
+
+    def test_a_long_read_does_not_wait_for_itself(self) -> None:
+        """A change in it is refused at once, as one in a handler of signals, and look-ups work."""
+        for change in CHANGES:
+            pool, found = shop(), []
+
+            def within(view: object, *_: object) -> int:
+                found.append(pool.message("shop.Order").name)
+                found.append(len(pool.clone()))
+                with self.assertRaisesRegex(RuntimeError, "within linked, clone or changes"):
+                    change(pool)
+                return 0
+
+            self.assertEqual(pool._core.read_long(within), 0)
+            self.assertEqual(found, ["Order", 2])
+            change(pool)
+
+    def test_a_handler_changes_the_pool_or_is_refused_at_once(self) -> None:
+        pool, made, refused, chance = shop(), [], [], random.Random(2)
+
+        def add() -> None:
+            try:
+                pool.add_script(f"file h{len(made)}.proto\nend\n")
+                made.append(pool)
+            except RuntimeError as error:
+                refused.append(error)
+
+        last = self.seconds(lambda _: pool.linked())
+        for _ in range(2000):
+            with_alarm(pool.linked, chance.random() * last, add)
+        self.assertEqual(len(pool), 2 + len(made))
+        self.assertTrue(made)
+        self.assertTrue(all("the pool can't be changed within" in str(it) for it in refused))
+
+    def test_a_torn_change_is_mended_by_the_next_look_up(self) -> None:
+        """As an exception in the midst of the end of a change would leave it."""
+        pool = shop()
+        for ask in (lambda: pool.find("shop.None"), lambda: len(pool), lambda: pool.find("shop.M")):
+            core = pool._core
+            core._calm = core._view.at = None
+            ask()
+            self.assertIsNotNone(core._calm)
+            self.assertEqual(core._view.at, core._pool.at)
+            self.assertEqual(pool.find("shop.Order").kind, "message")
+
+    def test_a_long_read_that_is_torn_is_waited_for_by_none(self) -> None:
+        pool = shop()
+        pool._core._turns._reads[threading.Lock()] = threading.get_ident()
+        pool._core._turns._reads[threading.Lock()] = 0
+        self.assertEqual(pool.add_script(TOUR), (1, 0, 0))
+        self.assertEqual(pool._core._turns._reads, {})
+
+
+@unittest.skipUnless(hasattr(os, "fork"), "there is no fork")
+class Forks(unittest.TestCase):
+    """What the child of a fork does with the pools of a process that has threads."""
+
+    def test_a_child_goes_on_beside_threads_that_use_the_pool(self) -> None:
+        pool, stop = shop(), threading.Event()
+
+        def use(thread: int) -> None:
+            number = 0
+            while not stop.is_set():
+                pool.linked()
+                len(pool.clone())
+                pool.find("shop.None")
+                pool.add_script(f"file t{thread}x{number}.proto\nend\n")
+                number += 1
+
+        def go_on() -> None:
+            nonlocal pool
+            try:
+                self.assertEqual(pool.message("shop.Order").name, "Order")
+                self.assertEqual(pool.clone().add_script(TOUR), (1, 0, 0))
+                self.assertEqual(pool.add_script(TOUR), (1, 0, 0))
+            except RuntimeError as error:
+                self.assertIn("the child lost it", str(error))
+            pool.close()
+            self.assertEqual(pool.add_script(TOUR), (1, 0, 0))
+            del pool
+
+        def let_go() -> None:
+            nonlocal pool
+            del pool
+
+        threads = [threading.Thread(target=use, args=(n,), daemon=True) for n in range(3)]
+        for thread in threads:
+            thread.start()
+        ends = [end_of_child(it) for _ in range(10) for it in (go_on, let_go)]
+        stop.set()
+        for thread in threads:
+            thread.join(WAIT)
+        self.assertEqual(ends, [0] * 20)
+
+    def fork_within(self, start: Callable[..., object], child: Callable[[], object]) -> int:
+        """How a child ends that is forked while a thread is in a call of the library."""
+        begun, end = threading.Event(), threading.Event()
+
+        def call(*_: object) -> int:
+            begun.set()
+            self.assertTrue(end.wait(WAIT))
+            return 0
+
+        thread = threading.Thread(target=start, args=(call,), daemon=True)
+        thread.start()
+        self.assertTrue(begun.wait(WAIT))
+        try:
+            return end_of_child(child)
+        finally:
+            end.set()
+            thread.join(WAIT)
+
+    def test_a_pool_that_was_being_changed_is_lost_to_the_child(self) -> None:
+        pool = shop()
+        order = pool.message("shop.Order")
+        self.assertEqual(order.name, "Order")
+
+        def child() -> None:
+            for call in (
+                *CHANGES[:2],
+                lambda pool: pool.find("shop.Order"),
+                lambda pool: pool["shop.Order"],
+                lambda pool: pool.linked(),
+                lambda pool: pool.clone(),
+                lambda pool: pool.changes(pool),
+                lambda pool: len(pool),
+                lambda pool: order.name,
+            ):
+                with self.assertRaisesRegex(RuntimeError, "the child lost it"):
+                    call(pool)
+            pool.close()
+            self.assertIsNone(pool.find("shop.Order"))
+            self.assertEqual(pool.add_script(TOUR), (1, 0, 0))
+
+        self.assertEqual(self.fork_within(lambda call: pool._core.add(call, b""), child), 0)
+        self.assertEqual((len(pool), order.name), (2, "Order"))
+
+    def test_a_pool_that_was_being_read_goes_on_in_the_child(self) -> None:
+        pool = shop()
+
+        def child() -> None:
+            self.assertEqual(len(pool.clone()), 2)
+            self.assertEqual(pool.add_script(TOUR), (1, 0, 0))
+            pool.close()
+
+        self.assertEqual(self.fork_within(pool._core.read_long, child), 0)
+        self.assertEqual(len(pool), 2)
+
+    def test_a_handler_that_forks_within_a_change_has_the_pool_as_its_parent(self) -> None:
+        pool, ends = shop(), []
+
+        def child() -> None:
+            self.assertEqual(pool.find("shop.Order").kind, "message")
+            with self.assertRaises(RuntimeError):
+                pool.close()
+
+        pool._core.add(lambda *_: ends.append(end_of_child(child)) or 0, b"")
+        self.assertEqual(ends, [0])
+
+
+class Types(unittest.TestCase):
+    """What is handed over."""
+
+    def test_what_is_of_a_wrong_type_is_a_type_error(self) -> None:
+        pool = tour()
+        outer, state = pool.message("tour.Outer"), pool.enum("tour.Outer.State")
+        service, file = pool.service("tour.Shop"), pool.files()[0]
+        names = [
+            *(pool.message, pool.field, pool.oneof, pool.enum, pool.enum_value, pool.service),
+            *(pool.method, pool.extension, pool.file, pool.file_of, pool.find),
+            *(outer.field_named, outer.field_json_named, state.value_named, service.method),
+            *(pool.__getitem__, lambda name: outer.EnumValueName(name, 0)),
+            *(lambda name: pool.full_name(name, 0), lambda name: pool.changes(pool, name)),
+            lambda name: pool.changes(pool, "wire", name),
+        ]
+        numbers = [
+            *(outer.field, outer.extension, state.value, pool.file_name, pool.linked_file),
+            *(pool.limit_faults, lambda number: pool.FindExtensionByNumber(outer, number)),
+            *(lambda number: pool.full_name("message", number),),
+            *(lambda number: pool.full_name("field", 0, number),),
+            lambda number: outer.EnumValueName("State", number),
+        ]
+        pools_and_records = [
+            *(pool.changes, pool.FindAllExtensions, outer.CopyToProto, file.CopyToProto),
+            *(pool.add_set, pool.add_file, pool.add_files, pool.add_script, pool.Add),
+            *(pool.AddSerializedFile, lambda it: pool.FindExtensionByNumber(it, 100)),
+            lambda it: pool.add_files([it]),
+        ]
+        for calls, wrong in (
+            (names, (5, 1.5, None, [], bytearray(b"tour.Outer"))),
+            (numbers, ("1", 1.5, None, [], b"1")),
+            (pools_and_records, (5, 1.5, None, object(), [1])),
+        ):
+            for number, call in enumerate(calls):
+                for value in wrong:
+                    with self.subTest(f"{number} of {value!r}"), self.assertRaises(TypeError):
+                        call(value)
+        self.assertEqual(len(pool), 1)
+
+    def test_names_may_be_bytes_and_numbers_of_any_class_of_ints(self) -> None:
+        pool = tour()
+        outer = pool.message("tour.Outer")
+        self.assertEqual(outer.field_named(b"id"), outer.field(True))
+        self.assertEqual(outer.field_json_named(b"innerOne"), outer.fields[2])
+        self.assertEqual(pool.service("tour.Shop").method(b"Get").name, "Get")
+        self.assertEqual(pool.enum("tour.Outer.State").value_named(b"DONE").number, 2)
+        for missing in (outer.field_named, pool.service("tour.Shop").method):
+            with self.assertRaises(KeyError):
+                missing("\ud800")
+
+    def test_bytes_that_say_another_length_are_read_to_their_end(self) -> None:
+        pool, again = tour(), protolink.Pool()
+        data = Lying(pool.linked())
+        self.assertEqual(again.add_set(data), (1, 0, 0))
+        self.assertEqual(again.linked(), pool.linked())
+        record = Lying(pool.linked_file(0))
+        for add in (again.add_file, again.AddSerializedFile, lambda it: again.add_files([it, it])):
+            add(record)
+        self.assertEqual(protolink.Pool().add_script(Lying(TOUR)), (1, 0, 0))
+        with self.assertRaisesRegex(protolink.Unreadable, "byte 2"):
+            again.add_set(Lying(b"\x0a\x05"))
+        self.assertEqual(pool.message(Lying(b"tour.Outer")), pool.message("tour.Outer"))
+        self.assertEqual(pool.message("tour.Outer").field_named(Lying(b"id")).number, 1)
+        names, name = pool._core._names, Lying(b"tour.Outer")
+        self.assertEqual(names.found(name), (1, 0, 0, 0))
+        self.assertEqual(names.defined(name), (1, 0, 0, 0, (4, 0, 1)))
+        self.assertEqual(names.file(Lying(b"tour.proto")), 0)
+
+    def test_what_each_call_makes_anew_is_asked_once(self) -> None:
+        """Where it is a pool of sets, or was asked before, and of few changes."""
+        lib = protolink._library.lib
+        asked: list[str] = []
+        data = shop().linked()
+
+        def counted(name: str, call: Callable[..., int]) -> Callable[..., int]:
+            return lambda *told: asked.append(name) or call(*told)
+
+        pool, large = protolink.Pool(), "".join(f"message M{n}\nend\n" for n in range(3000))
+        pool.add_script(f"file large.proto\n{large}end\n")
+        names = ("pool_linked", "pool_linked_file", "pool_changes")
+        was = {name: getattr(lib, name) for name in names}
+        try:
+            for name in names:
+                setattr(lib, name, counted(name, was[name]))
+            self.assertGreater(len(pool.linked()), protolink._core.FIRST_LONG_ROOM)
+            pool.add_set(data)
+            pool.linked()
+            pool.linked_file(1)
+            pool.clone().linked()
+            pool.changes(pool)
+        finally:
+            for name in names:
+                setattr(lib, name, was[name])
+        wanted = ["pool_linked", "pool_linked", "pool_linked_file", "pool_linked", "pool_changes"]
+        self.assertEqual(asked, wanted)
 
 
 SAME = {

@@ -3,27 +3,27 @@
 from __future__ import annotations
 
 from collections.abc import Callable
-from typing import TYPE_CHECKING, Any, Optional
+from typing import TYPE_CHECKING, Any
 
 if TYPE_CHECKING:
     from functools import cached_property
 else:
 
-    class cached_property:
-        """As that of functools, but for its lock: before Python 3.12 that is one for all instances.
-        Here two threads may ask at once, and the first answer is kept."""
+    def cached_property(ask: Callable[[Any], Any]) -> property:
+        """As that of functools, for a descriptor: it raises an error where the pool is gone, also
+        of what was asked before. Two threads may ask at once, and the first answer is kept."""
+        name = ask.__name__
 
-        def __init__(self, ask: Callable[[Any], Any]) -> None:
-            self._ask = ask
-            self.__doc__ = ask.__doc__
+        def answer(described: Any) -> Any:
+            if described._core.gone is not None:
+                described._core.check()
+            try:
+                return described._kept[name]
+            except KeyError:
+                pass
+            return described._kept.setdefault(name, ask(described))
 
-        def __set_name__(self, _: type, name: str) -> None:
-            self._name = name
-
-        def __get__(self, instance: Optional[object], _: Optional[type] = None) -> Any:
-            if instance is None:
-                return self
-            return instance.__dict__.setdefault(self._name, self._ask(instance))
+        return property(answer, doc=ask.__doc__)
 
 
 __all__ = ["cached_property"]

@@ -4,12 +4,11 @@ from __future__ import annotations
 
 import ctypes
 import json
+import os
 import sys
-import threading
 import weakref
 from collections.abc import Callable, Iterator
-from contextlib import contextmanager
-from typing import TYPE_CHECKING, Any, Optional, TypeVar, Union
+from typing import TYPE_CHECKING, Any, Optional, TypeVar
 
 from ._library import (
     DONE,
@@ -30,6 +29,7 @@ from ._library import (
     lib,
 )
 from ._names import FIRST_PATH, Defined, Found, Names
+from ._turns import Turns
 from .faults import Refused, TooMany, Unreadable, fault_of
 
 if TYPE_CHECKING:
@@ -38,8 +38,12 @@ if TYPE_CHECKING:
 FIRST_ROOM = 256
 """How long a text may be that is had by one call."""
 
-FIRST_CHANGES = 16384
-"""How long the text of changes may be that is had by one call. Each call makes it anew."""
+FIRST_LONG_ROOM = 16384
+"""The same of what each call makes anew: linked files, and the text of changes."""
+
+CLOSED = (LookupError, "the pool was closed")
+LOST = (RuntimeError, "a thread was changing the pool as the process forked: the child lost it")
+"""Why a pool is gone: the error that its calls raise, and its text."""
 
 I = TypeVar("I")
 
@@ -50,87 +54,120 @@ class Core:
     A look-up takes no lock but that of the interpreter, which it has from before it reads the view
     until its answer is written. A call that changes the pool lets go of the interpreter's lock. So
     it takes the view away before, and look-ups then see an empty pool. What one tells counts where
-    no change had begun by its end that had not ended before it; else it is asked again in turn.
+    the pool was calm before it and is so still; else it is asked again in turn.
     """
 
     def __init__(self) -> None:
         self._pool = RawPool()
-        """What calls are passed that change the pool: one at a time, which has the lock."""
+        """What calls are passed that change the pool."""
         self._view = RawPool()
         """A copy of its pointer, for look-ups; none while the pool changes."""
         self._at = ctypes.byref(self._view)
         self._names = Names(self._view)
-        self._begun = 0
-        self._ended = 0
-        """How many changes have begun, and how many of those have ended."""
-        self._lock = threading.RLock()
-        self._long_reads = 0
-        self._no_long_read = threading.Condition(self._lock)
+        self._turns = Turns()
+        self._calm: Optional[object] = object()
+        """Another object after each change, and None while the pool changes. It stays None where an
+        exception tears a change, up to the next look-up, and where the pool is gone."""
+        self.gone: Optional[tuple[type[Exception], str]] = None
+        """Why its calls raise an error from now on: `CLOSED` or `LOST`, or None where they do not."""
+        self._linked_len = 0
+        """About how long the linked files are."""
         self._below: dict[str, Below] = {}
         self.owner: Optional[weakref.ReferenceType[Pool]] = None
+        _CORES.add(weakref.ref(self, _CORES.discard))
 
     def __del__(self) -> None:
-        if lib is not None:
-            self.clear()
+        if lib is not None and hasattr(self, "_pool"):
+            lib.pool_clear(self._pool)
 
     def read(self, call: Callable[..., int], *told: object) -> int:
         """Makes a call that reads the pool, and answers its status."""
-        ended = self._ended
+        calm = self._calm
         status = call(self._at, *told)
-        return status if self._begun == ended else self._read_in_turn(call, *told)
+        if calm is not None and self._calm is calm:
+            return status
+        return self._in_turn(lambda view: call(ctypes.byref(view), *told))
 
-    def _read_in_turn(self, call: Callable[..., int], *told: object) -> int:
-        """The same when no call changes the pool."""
-        with self._lock:
-            return call(ctypes.byref(RawPool(self._pool.at)), *told)
+    def _in_turn(self, look_up: Callable[[RawPool], I]) -> I:
+        """Looks up when no other thread changes the pool."""
+        with self._turns.lock:
+            return look_up(self._now())
+
+    def _now(self) -> RawPool:
+        """A view of the pool, for who has the lock. Raises an error where the pool is gone."""
+        self.check()
+        if self._calm is None and not self._turns.is_within_change():
+            self._show()
+        return RawPool(self._pool.at)
+
+    def _show(self) -> None:
+        """Shows the pool to look-ups."""
+        self._view.at = self._pool.at
+        self._calm = object()
+
+    def check(self) -> None:
+        """Raises an error where the pool is gone."""
+        if self.gone is not None:
+            error, text = self.gone
+            raise error(text)
 
     def read_long(self, call: Callable[..., int], *told: object) -> int:
         """The same of a call that may take long, and lets go of the interpreter's lock. It is passed
         a view of its own, and only calls wait for it that change the pool."""
-        with self._lock:
-            view = RawPool(self._pool.at)
-            self._long_reads += 1
-        try:
-            return call(ctypes.byref(view), *told)
-        finally:
-            with self._lock:
-                self._long_reads -= 1
-                self._no_long_read.notify_all()
+        return self._turns.read(self._now, lambda view: call(ctypes.byref(view), *told))
 
-    @contextmanager
-    def _alone(self) -> Iterator[object]:
-        """Has the pool for a call that changes it, and lends it."""
-        with self._lock:
-            while self._long_reads:
-                self._no_long_read.wait()
-            self._begun += 1
-            self._view.at = None
+    def _change(self, call: Callable[[Any], I]) -> I:
+        """Makes a call that changes the pool, when no other one uses it."""
+        calm = object()
+
+        def hidden() -> I:
             try:
-                yield ctypes.byref(self._pool)
+                self._calm = None
+                self._view.at = None
+                return call(ctypes.byref(self._pool))
             finally:
-                # one in a handler of signals stands within another
-                if self._ended + 1 == self._begun:
-                    self._view.at = self._pool.at
-                self._ended += 1
+                # here stands no call, after which a handler of signals might raise an exception
+                self._view.at = self._pool.at
+                self._calm = calm if self.gone is None else None
 
-    def clear(self) -> None:
-        """Frees what the pool owns."""
-        with self._alone() as pool:
+        return self._turns.change(hidden)
+
+    def close(self) -> None:
+        """Frees what the pool owns. From now on its calls raise an error."""
+
+        def clear(pool: object) -> None:
+            self.gone = CLOSED
             lib.pool_clear(pool)
             self._below = {}
+
+        self._change(clear)
+
+    def after_fork(self) -> None:
+        """Goes on in the child of a fork, which has none of the other threads. What one of them was
+        changing is lost, and its memory is not freed."""
+        if self._turns.end_others():
+            self.gone = LOST
+            self._calm = self._view.at = self._pool.at = None
 
     def add(self, call: Callable[..., int], data: bytes, *more: object) -> RawAdded:
         """Links files and answers what became of them, or raises why they are not linked."""
         added = RawAdded()
-        with self._lock:
-            with self._alone() as pool:
-                status = call(pool, data, len(data), *more)
+
+        def link(pool: object) -> tuple[int, bytes]:
+            self.check()
+            status = call(pool, data, len(data), *more)
             if status == DONE:
                 self.read(lib.pool_added, added)
-                return added
-            if status == NO_MEMORY:
-                raise MemoryError
-            told = json.loads(self.written(lib.pool_report_json))
+            has_report = status not in (DONE, NO_MEMORY)
+            return status, self.written(lib.pool_report_json) if has_report else b""
+
+        status, report = self._change(link)
+        if status == DONE:
+            self._linked_len += 0 if added.passed_over else len(data)
+            return added
+        if status == NO_MEMORY:
+            raise MemoryError
+        told = json.loads(report)
         if status == REFUSED:
             raise Refused([fault_of(fault) for fault in told["faults"]], told["more"])
         if status == TOO_MANY:
@@ -138,16 +175,20 @@ class Core:
         raise Unreadable(told["error"])
 
     def limit_faults(self, most: int) -> None:
-        with self._alone() as pool:
-            if lib.pool_limit_faults(pool, min(most, MOST)) != DONE:
-                raise MemoryError
+        def limit(pool: object) -> int:
+            self.check()
+            return int(lib.pool_limit_faults(pool, min(most, MOST)))
+
+        if self._change(limit) != DONE:
+            raise MemoryError
 
     def clone(self) -> Core:
         """A pool with equal contents, which shares nothing with this one."""
         copy = type(self)()
-        with copy._alone() as pool:
-            if self.read_long(lib.pool_clone, pool) != DONE:
-                raise MemoryError
+        if self.read_long(lib.pool_clone, copy._pool) != DONE:
+            raise MemoryError
+        copy._show()
+        copy._linked_len = self._linked_len
         return copy
 
     def counts(self) -> RawCounts:
@@ -157,38 +198,39 @@ class Core:
 
     def found(self, name: bytes) -> Optional[Found]:
         """What a full name means, or None."""
-        ended = self._ended
+        calm = self._calm
         found = self._names.found(name)
         # an empty pool has no names
-        if found is not None or self._begun == ended:
+        if found is not None or (calm is not None and self._calm is calm):
             return found
-        return self._in_turn(lambda names: names.found(name))
+        return self._in_turn(lambda view: Names(view).found(name))
 
     def defined(self, name: bytes) -> Optional[Defined]:
         """What a full name means, and where it is declared, or None."""
-        ended = self._ended
+        calm = self._calm
         defined = self._names.defined(name)
-        if defined is not None or self._begun == ended:
+        if defined is not None or (calm is not None and self._calm is calm):
             return defined
-        return self._in_turn(lambda names: names.defined(name))
+        return self._in_turn(lambda view: Names(view).defined(name))
 
     def file_named(self, name: bytes) -> Optional[int]:
         """The index of the file with a name, or None."""
-        ended = self._ended
+        calm = self._calm
         index = self._names.file(name)
-        if index is not None or self._begun == ended:
+        if index is not None or (calm is not None and self._calm is calm):
             return index
-        return self._in_turn(lambda names: names.file(name))
-
-    def _in_turn(self, look_up: Callable[[Names], I]) -> I:
-        """Looks up a name when no call changes the pool."""
-        with self._lock:
-            view = RawPool(self._pool.at)
-            return look_up(Names(view))
+        return self._in_turn(lambda view: Names(view).file(name))
 
     def linked(self) -> bytes:
         """The linked files."""
-        return self.written(lib.pool_linked, read=self.read_long)
+        room = (self._linked_len // FIRST_LONG_ROOM + 1) * FIRST_LONG_ROOM
+        linked = self.written(lib.pool_linked, read=self.read_long, room=room)
+        self._linked_len = len(linked)
+        return linked
+
+    def linked_file(self, index: int) -> bytes:
+        """A linked file."""
+        return self.written(lib.pool_linked_file, index, room=FIRST_LONG_ROOM)
 
     def changes(self, older: Core, level: int, compatibility: int) -> bytes:
         """What the pool changes of an older one, as an object of JSON."""
@@ -200,7 +242,7 @@ class Core:
             return older.read_long(with_older, *told)
 
         asked = (level, compatibility)
-        return self.written(lib.pool_changes, *asked, read=read, room=FIRST_CHANGES)
+        return self.written(lib.pool_changes, *asked, read=read, room=FIRST_LONG_ROOM)
 
     def written(
         self,
@@ -313,16 +355,16 @@ class CoreInTurn(Core):
     """The same for an interpreter without a lock of its own: look-ups wait for one another."""
 
     def read(self, call: Callable[..., int], *told: object) -> int:
-        return self._read_in_turn(call, *told)
+        return self._in_turn(lambda view: call(ctypes.byref(view), *told))
 
     def found(self, name: bytes) -> Optional[Found]:
-        return self._in_turn(lambda names: names.found(name))
+        return self._in_turn(lambda view: Names(view).found(name))
 
     def defined(self, name: bytes) -> Optional[Defined]:
-        return self._in_turn(lambda names: names.defined(name))
+        return self._in_turn(lambda view: Names(view).defined(name))
 
     def file_named(self, name: bytes) -> Optional[int]:
-        return self._in_turn(lambda names: names.file(name))
+        return self._in_turn(lambda view: Names(view).file(name))
 
 
 def new_core() -> Core:
@@ -331,13 +373,15 @@ def new_core() -> Core:
     return Core() if has_lock else CoreInTurn()
 
 
-def name_bytes(name: Union[str, bytes]) -> bytes:
-    """A name as the library takes it. What is no text means nothing there."""
-    if isinstance(name, str):
-        try:
-            return name.encode()
-        except UnicodeEncodeError:
-            return name.encode("utf-8", "surrogatepass")
-    if isinstance(name, bytes):
-        return name
-    raise TypeError(f"a name is a str, and not of type {type(name).__name__}")
+_CORES: set[weakref.ReferenceType[Core]] = set()
+"""All pools of the library that there are."""
+
+
+def _after_fork() -> None:
+    for known in list(_CORES):
+        core = known()
+        if core is not None:
+            core.after_fork()
+
+
+os.register_at_fork(after_in_child=_after_fork)

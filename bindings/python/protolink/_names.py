@@ -71,6 +71,9 @@ def _prepared(call: Any) -> Any:
     return made
 
 
+_length: Callable[[bytes], int] = bytes.__len__
+"""How many bytes there are, whatever a subclass says."""
+
 _size: Callable[[int], Any] = ctypes.c_size_t.from_param
 
 _MANY = 256
@@ -103,7 +106,7 @@ def _found_by_ctypes(pool: RawPool) -> Callable[[bytes], Optional[Found]]:
     find, at = _prepared(lib.pool_find), ctypes.byref(pool)
 
     def found(name: bytes) -> Optional[Found]:
-        length = len(name)
+        length = _length(name)
         try:
             room = _ROOMS.pop()
         except IndexError:
@@ -126,7 +129,7 @@ def _defined_by_ctypes(
         found, room, length = find(name), FIRST_PATH, ctypes.c_size_t()
         while found is not None:
             path = (ctypes.c_int32 * room)()
-            status = find_path(pool, name, len(name), path, room, length)
+            status = find_path(pool, name, _length(name), path, room, length)
             if status == DONE:
                 return (*found, tuple(path[: length.value]))
             if status != SHORT:
@@ -141,7 +144,7 @@ def _file_by_ctypes(pool: RawPool) -> Callable[[bytes], Optional[int]]:
     find, at = _prepared(lib.file_by_name), ctypes.byref(pool)
 
     def found(name: bytes) -> Optional[int]:
-        length = len(name)
+        length = _length(name)
         try:
             room = _NUMBERS.pop()
         except IndexError:

@@ -10,6 +10,7 @@ from collections.abc import Callable
 from importlib import import_module
 from typing import TYPE_CHECKING, Any, ClassVar, NamedTuple, Optional, TypeVar, Union
 
+from ._asked import Name, copy_to, name_bytes, number_of, only
 from ._cached import cached_property
 from ._library import (
     KINDS,
@@ -90,12 +91,14 @@ class _Described:
         self._core = core
         self._index = index
         self._position = position
+        self._kept: dict[str, Any] = {}
 
     @property
     def pool(self) -> Pool:
         """The pool that has it."""
         from .pool import pool_of  # which names this module
 
+        self._core.check()
         return pool_of(self._core)
 
     def _key(self) -> tuple[int, int, int]:
@@ -108,6 +111,14 @@ class _Described:
 
     def __hash__(self) -> int:
         return hash((type(self), self._key()))
+
+    def _told(self) -> str:
+        """The name by which it is printed."""
+        raise NotImplementedError
+
+    def __repr__(self) -> str:
+        told = "of no pool any more" if self._core.gone else repr(self._told())
+        return f"<protolink.{type(self).__name__} {told}>"
 
     def __copy__(self: D) -> D:
         return self
@@ -179,15 +190,15 @@ class _Named(_Described):
 
     def CopyToProto(self, proto: Any) -> None:
         """Copies its linked record to one of protobuf's package."""
-        proto.ParseFromString(self.serialized_pb)
+        copy_to(proto, self.serialized_pb)
 
     @property
     def file(self) -> FileDescriptor:
         """The file that declares it."""
         raise NotImplementedError
 
-    def __repr__(self) -> str:
-        return f"<protolink.{type(self).__name__} {self.full_name!r}>"
+    def _told(self) -> str:
+        return self.full_name
 
 
 class FileDescriptor(_Described):
@@ -197,10 +208,10 @@ class FileDescriptor(_Described):
     def _info(self) -> FileInfo:
         return self._core.told(lib.file, FileInfo(), self._index)
 
-    def __repr__(self) -> str:
-        return f"<protolink.FileDescriptor {self.name!r}>"
+    def _told(self) -> str:
+        return self.name
 
-    @property
+    @cached_property
     def index(self) -> int:
         """Its index in the pool, in the order of linking."""
         return self._index
@@ -223,7 +234,7 @@ class FileDescriptor(_Described):
     @property
     def serialized_pb(self) -> bytes:
         """The linked file, as the bytes of its FileDescriptorProto."""
-        return self._core.written(lib.pool_linked_file, self._index)
+        return self._core.linked_file(self._index)
 
     @property
     def dependencies(self) -> list[FileDescriptor]:
@@ -296,7 +307,7 @@ class FileDescriptor(_Described):
 
     def CopyToProto(self, proto: Any) -> None:
         """Copies the linked file to a FileDescriptorProto of protobuf's package."""
-        proto.ParseFromString(self.serialized_pb)
+        copy_to(proto, self.serialized_pb)
 
 
 class _Deprecated(_Named):
@@ -455,20 +466,20 @@ class Descriptor(_Deprecated):
         """Its field with a number, or a KeyError."""
         return self._part(lib.field_by_number, _number(number), f"field {number}")
 
-    def field_named(self, name: str) -> FieldDescriptor:
+    def field_named(self, name: Name) -> FieldDescriptor:
         """Its field with a name, or a KeyError."""
-        told = name.encode()
+        told = name_bytes(name)
         return self._part(lib.field_by_name, told, len(told), f"field {name!r}")
 
-    def field_json_named(self, json_name: str) -> FieldDescriptor:
+    def field_json_named(self, json_name: Name) -> FieldDescriptor:
         """Its field with a JSON name, or a KeyError. Those to which one was given come first, as
         `protoc` gives it to all, and then the others."""
-        told = json_name.encode()
+        told = name_bytes(json_name)
         position = self._core.number(lib.field_by_json_name, self._index, told, len(told))
         if position is not None:
             return FieldDescriptor(self._core, self._index, position)
         for field in self.fields:
-            if field.json_name == json_name:
+            if name_bytes(field.json_name) == told:
                 return field
         raise KeyError(f"{self.full_name} has no field whose JSON name is {json_name!r}")
 
@@ -487,11 +498,12 @@ class Descriptor(_Deprecated):
 
     def EnumValueName(self, enum: str, value: int) -> str:
         """The name of the value with a number of an enum that is declared in it."""
-        return self.enum_types_by_name[enum].values_by_number[value].name
+        return self.enum_types_by_name[only(enum, str, "a name is a str")].value(value).name
 
 
 def _number(number: int) -> int:
     """A number of a field, or one that none has."""
+    number = number_of(number)
     return number if 0 < number < NONE else 0
 
 
@@ -521,7 +533,7 @@ class FieldDescriptor(_Deprecated):
     def _info(self) -> Any:
         return self._core.told(lib.field, FieldInfo(), self._index, self._position)
 
-    @property
+    @cached_property
     def index(self) -> int:
         """Its position in the message."""
         return self._position
@@ -753,7 +765,7 @@ class OneofDescriptor(_Named):
     def _info(self) -> OneofInfo:
         return self._core.told(lib.oneof, OneofInfo(), self._index, self._position)
 
-    @property
+    @cached_property
     def index(self) -> int:
         """Its position in the message."""
         return self._position
@@ -829,15 +841,15 @@ class EnumDescriptor(_Deprecated):
 
     def value(self, number: int) -> EnumValueDescriptor:
         """Its first value with a number, or a KeyError."""
-        is_number = -(2**31) <= number < 2**31
+        wanted = number_of(number)
         call, position = lib.enum_value_by_number, None
-        if is_number:
-            position = self._core.number(call, self._index, number)
+        if -(2**31) <= wanted < 2**31:
+            position = self._core.number(call, self._index, wanted)
         return self._value_at(position, number)
 
-    def value_named(self, name: str) -> EnumValueDescriptor:
+    def value_named(self, name: Name) -> EnumValueDescriptor:
         """Its value with a name, or a KeyError."""
-        told = name.encode()
+        told = name_bytes(name)
         call = lib.enum_value_by_name
         return self._value_at(self._core.number(call, self._index, told, len(told)), name)
 
@@ -866,7 +878,7 @@ class EnumValueDescriptor(_Deprecated):
     def _info(self) -> EnumValueInfo:
         return self._core.told(lib.enum_value, EnumValueInfo(), self._index, self._position)
 
-    @property
+    @cached_property
     def index(self) -> int:
         """Its position in the enum."""
         return self._position
@@ -917,9 +929,9 @@ class ServiceDescriptor(_Deprecated):
     def methods_by_name(self) -> dict[str, MethodDescriptor]:
         return _by_name(self.methods)
 
-    def method(self, name: str) -> MethodDescriptor:
+    def method(self, name: Name) -> MethodDescriptor:
         """The method with a name, or a KeyError."""
-        told = name.encode()
+        told = name_bytes(name)
         position = self._core.number(lib.method_by_name, self._index, told, len(told))
         if position is None:
             raise KeyError(f"{self.full_name} has no method {name!r}")
@@ -938,7 +950,7 @@ class MethodDescriptor(_Deprecated):
     def _info(self) -> MethodInfo:
         return self._core.told(lib.method, MethodInfo(), self._index, self._position)
 
-    @property
+    @cached_property
     def index(self) -> int:
         """Its position in the service."""
         return self._position

@@ -7,10 +7,10 @@ import json
 import os
 import weakref
 from collections.abc import Callable, Iterable, Iterator
-from pathlib import Path
 from typing import Any, NamedTuple, Optional, Protocol, TypeVar, Union, cast
 
-from ._core import Core, name_bytes, new_core
+from ._asked import Name, bytes_of, index_of, name_bytes, number_of, only, place_of
+from ._core import Core, new_core
 from ._library import COMPATIBILITIES, KINDS, LEVELS, NONE, Item, lib
 from ._names import Found
 from ._records import name_of
@@ -32,9 +32,6 @@ __all__ = ["Added", "Buffer", "Counts", "Definition", "Message", "Pool", "pool_o
 
 Buffer = Union[bytes, bytearray, memoryview]
 """What bytes may be handed over in."""
-
-Name = Union[str, bytes]
-"""What names may be asked for by."""
 
 MOST_KEPT = 10_000
 """How many descriptors a pool keeps that were found by name, and as many files."""
@@ -100,19 +97,26 @@ class Pool:
     def _set_core(self, core: Core) -> None:
         """Makes it the pool of a core. Descriptors know the core alone, so that what is kept of them
         makes no circle."""
+        core.owner = weakref.ref(self)
         self._core = core
         self._forget()
-        core.owner = weakref.ref(self)
 
     def _forget(self) -> None:
-        """Keeps nothing that was found by name. A look-up that has begun keeps it where nothing
-        looks any more."""
+        """Keeps nothing that was found by name."""
         self._kept: dict[tuple[object, Name], Any] = {}
         self._files: dict[Name, FileDescriptor] = {}
 
     def close(self) -> None:
-        """Frees what the pool owns. It has no files then, and its descriptors tell nothing."""
-        self._core.clear()
+        """Frees what the pool owns. It has no files then, and its descriptors raise a LookupError.
+        It may be filled again: it has a core of its own for that, and other descriptors."""
+        core, next_core = self._core, new_core()
+        next_core.owner = weakref.ref(self)
+        try:
+            core.close()
+        finally:
+            # here stands no call, after which a handler of signals might raise an exception
+            if core.gone is not None:
+                self._core = next_core
         self._forget()
 
     def __enter__(self) -> Pool:
@@ -132,11 +136,12 @@ class Pool:
         return isinstance(full_name, (str, bytes)) and self._found(full_name) is not None
 
     def __getitem__(self, full_name: Name) -> Any:
-        kind, index, position, _ = self._found(full_name) or PACKAGE
+        core = self._core
+        kind, index, position, _ = core.found(name_bytes(full_name)) or PACKAGE
         class_ = CLASSES[kind]
         if class_ is None:
             raise KeyError(f"the pool has no {full_name!r}")
-        return class_(self._core, index, position)
+        return class_(core, index, position)
 
     def __iter__(self) -> Iterator[FileDescriptor]:
         return iter(self.files())
@@ -172,7 +177,8 @@ class Pool:
 
     def add_script(self, script: Union[str, Buffer]) -> Added:
         """Links the files that a script of lines declares, as `add_set` does."""
-        data = script.encode() if isinstance(script, str) else bytes_of(script, "script")
+        is_text = isinstance(script, str)
+        data = name_bytes(cast(str, script)) if is_text else bytes_of(script, "script")
         return self._add(lib.pool_add_script, data)
 
     def _add(self, call: Callable[..., int], data: bytes, *more: object) -> Added:
@@ -182,6 +188,7 @@ class Pool:
     def limit_faults(self, most: int) -> None:
         """Sets how many faults are told at most where files break rules, from the next call on: a
         hundred where this was never called. A copy has the same limit."""
+        most = number_of(most)
         if most < 0:
             raise ValueError("a number of faults is not below 0")
         self._core.limit_faults(most)
@@ -209,12 +216,12 @@ class Pool:
         otherwise, or not at all, what a writer of the older ones writes; forward, where a reader of
         the older ones does so with what a writer of its files writes; full is both, one of
         `COMPATIBILITIES`. The higher levels of `LEVELS` have more."""
-        if level not in LEVELS:
-            raise ValueError(f"{level!r} is none of the levels")
-        if compatibility not in COMPATIBILITIES:
-            raise ValueError(f"{compatibility!r} is none of the compatibilities")
-        asked = (LEVELS.index(level), COMPATIBILITIES.index(compatibility))
-        return changes_of(json.loads(self._core.changes(older._core, *asked)))
+        core = only(older, Pool, "an older pool is a Pool")._core
+        asked = (
+            place_of(level, LEVELS, "a level"),
+            place_of(compatibility, COMPATIBILITIES, "a compatibility"),
+        )
+        return changes_of(json.loads(self._core.changes(core, *asked)))
 
     def clone(self) -> Pool:
         """A pool with equal contents, which shares nothing with this one."""
@@ -228,7 +235,7 @@ class Pool:
 
     def linked_file(self, index: int) -> bytes:
         """A linked file, as the bytes of its FileDescriptorProto; past the end an IndexError."""
-        return self._core.written(lib.pool_linked_file, index_of(index))
+        return self._core.linked_file(index_of(index))
 
     def linked_files(self) -> Iterator[bytes]:
         """The linked files, each as the bytes of its FileDescriptorProto, and behind those that it
@@ -268,34 +275,39 @@ class Pool:
 
     def files(self) -> list[FileDescriptor]:
         """The files, in the order of linking."""
-        return [FileDescriptor(self._core, index) for index in range(self.counts().files)]
+        core = self._core
+        return [FileDescriptor(core, index) for index in range(core.counts().files)]
 
     def messages(self) -> list[Descriptor]:
         """The messages, nested ones too, in the order of linking."""
-        return [Descriptor(self._core, index) for index in range(self.counts().messages)]
+        core = self._core
+        return [Descriptor(core, index) for index in range(core.counts().messages)]
 
     def enums(self) -> list[EnumDescriptor]:
         """The enums, nested ones too, in the order of linking."""
-        return [EnumDescriptor(self._core, index) for index in range(self.counts().enums)]
+        core = self._core
+        return [EnumDescriptor(core, index) for index in range(core.counts().enums)]
 
     def services(self) -> list[ServiceDescriptor]:
         """The services, in the order of linking."""
-        return [ServiceDescriptor(self._core, index) for index in range(self.counts().services)]
+        core = self._core
+        return [ServiceDescriptor(core, index) for index in range(core.counts().services)]
 
     def extensions(self) -> list[ExtensionDescriptor]:
         """The extensions, nested ones too, in the order of linking."""
-        return [ExtensionDescriptor(self._core, index) for index in range(self.counts().extensions)]
+        core = self._core
+        return [ExtensionDescriptor(core, index) for index in range(core.counts().extensions)]
 
     def file(self, name: Name) -> FileDescriptor:
         """The file with a name, or a KeyError."""
-        files = self._files
+        core, files = self._core, self._files
         kept = files.get(name)
-        if kept is not None:
+        if kept is not None and kept._core is core:
             return kept
-        index = self._core.file_named(name_bytes(name))
+        index = core.file_named(name_bytes(name))
         if index is None:
             raise KeyError(f"the pool has no file {name!r}")
-        made = FileDescriptor(self._core, index)
+        made = FileDescriptor(core, index)
         if len(files) >= MOST_KEPT:
             files.clear()
         files[name] = made
@@ -303,10 +315,11 @@ class Pool:
 
     def file_of(self, full_name: Name) -> FileDescriptor:
         """The file that declares a full name, or a KeyError; of a package the first that has it."""
-        found = self._found(full_name)
+        core = self._core
+        found = core.found(name_bytes(full_name))
         if found is None:
             raise KeyError(f"the pool has no {full_name!r}")
-        return FileDescriptor(self._core, found[3])
+        return FileDescriptor(core, found[3])
 
     def message(self, full_name: Name) -> Descriptor:
         """The message with a full name, or a KeyError."""
@@ -355,15 +368,15 @@ class Pool:
 
     def FindExtensionByNumber(self, message: Descriptor, number: int) -> ExtensionDescriptor:
         """The extension of a message with a number, or a KeyError."""
-        return message.extension(number)
+        return only(message, Descriptor, "a message is a Descriptor").extension(number)
 
     def FindAllExtensions(self, message: Descriptor) -> list[ExtensionDescriptor]:
         """The extensions of the pool that extend a message, in the order of linking."""
-        return message.all_extensions
+        return only(message, Descriptor, "a message is a Descriptor").all_extensions
 
     def Add(self, file: Message) -> FileDescriptor:
         """Links a FileDescriptorProto of protobuf's package, and answers the file with its name."""
-        return self.AddSerializedFile(file.SerializeToString())
+        return self.AddSerializedFile(bytes_of(file, "FileDescriptorProto"))
 
     def AddSerializedFile(self, data: Buffer) -> FileDescriptor:
         """Links the file of a FileDescriptorProto, and answers the file with its name."""
@@ -380,22 +393,20 @@ class Pool:
     def full_name(self, kind: str, index: int, position: int = 0) -> str:
         """The full name of an item, whose kind is one of `KINDS`. Raises an IndexError where the pool
         has none."""
-        if kind not in KINDS:
-            raise ValueError(f"{kind!r} is none of the kinds of items")
-        item = Item(KINDS.index(kind), index_of(index), index_of(position))
+        item = Item(place_of(kind, KINDS, "a kind"), index_of(index), index_of(position))
         return self._core.written(lib.full_name, item).decode()
 
     def _named(self, full_name: Name, wanted: Callable[[Core, int, int], D]) -> D:
         """The descriptor of what a name means, where it is of a kind."""
-        known = self._kept
+        core, known = self._core, self._kept
         kept = known.get((wanted, full_name))
-        if kept is not None:
+        if kept is not None and kept._core is core:
             return cast(D, kept)
-        kind, index, position, _ = self._found(full_name) or PACKAGE
+        kind, index, position, _ = core.found(name_bytes(full_name)) or PACKAGE
         if CLASSES[kind] is not wanted:
             name = KINDS[CLASSES.index(cast(Any, wanted))].replace("_", " ")
             raise KeyError(f"the pool has no {name} {full_name!r}")
-        made = wanted(self._core, index, position)
+        made = wanted(core, index, position)
         if len(known) >= MOST_KEPT:
             known.clear()
         known[wanted, full_name] = made
@@ -409,23 +420,3 @@ def pool_of(core: Core) -> Pool:
         pool = Pool.__new__(Pool)
         pool._set_core(core)
     return pool
-
-
-def index_of(number: int) -> int:
-    """A number that the library takes as an index. One that is none is past every end."""
-    return number if 0 <= number < NONE else NONE
-
-
-def bytes_of(data: Any, what: str) -> bytes:
-    """The bytes of what is handed over to be linked."""
-    if isinstance(data, bytes):
-        return data
-    if isinstance(data, os.PathLike):
-        return Path(data).read_bytes()
-    if hasattr(data, "SerializeToString"):
-        return bytes(data.SerializeToString())
-    if isinstance(data, (bytearray, memoryview)):
-        return bytes(data)
-    kind = type(data).__name__
-    hint = "; give a path as pathlib.Path(..)" if isinstance(data, str) else ""
-    raise TypeError(f"a {what} is bytes, a path or a message of protobuf, and no {kind}{hint}")
