@@ -7,7 +7,8 @@ use std::fmt;
 use std::ops::Deref;
 use std::{slice, vec};
 
-/// At which level two pools are compared. Each level contains the ones before it.
+/// At which level two pools are compared. Each level contains the ones before it. There may be more
+/// of them, as there are more things that a change may break.
 #[derive(Debug, Clone, Copy, PartialEq, Eq, PartialOrd, Ord, Hash)]
 #[non_exhaustive]
 pub enum Level {
@@ -37,7 +38,7 @@ impl Level {
     }
 }
 
-/// Which of two pools is to read what the other writes.
+/// Which of two pools is to read what the other writes. There may be more, as registries have more.
 #[derive(Debug, Clone, Copy, PartialEq, Eq, Hash)]
 #[non_exhaustive]
 pub enum Compatibility {
@@ -77,7 +78,8 @@ impl Direction {
     }
 }
 
-/// What a pool changes of an older one, and where.
+/// What a pool changes of an older one, and where. It may get members, as the report of the library
+/// may.
 #[derive(Debug, Clone, PartialEq, Eq)]
 #[non_exhaustive]
 pub struct Change {

@@ -6,8 +6,9 @@ use std::fmt;
 use std::ops::Deref;
 use std::{slice, vec};
 
-/// Memory was refused.
-#[derive(Debug, Clone, Copy, PartialEq, Eq)]
+/// Memory was refused. It is shown by `Debug` as by `Display`, so that a `main` that ends with it
+/// prints the text.
+#[derive(Clone, Copy, PartialEq, Eq)]
 pub struct OutOfMemory;
 
 impl fmt::Display for OutOfMemory {
@@ -16,10 +17,31 @@ impl fmt::Display for OutOfMemory {
     }
 }
 
+impl fmt::Debug for OutOfMemory {
+    fn fmt(&self, f: &mut fmt::Formatter<'_>) -> fmt::Result {
+        fmt::Display::fmt(self, f)
+    }
+}
+
 impl Error for OutOfMemory {}
 
 /// Why files were not linked. The pool is what it was.
-#[derive(Debug, Clone, PartialEq, Eq)]
+///
+/// It is shown by `Debug` as by `Display`, so that a `main` that ends with it prints the text:
+///
+/// ```no_run
+/// use protolink::{DescriptorError, DescriptorPool};
+///
+/// fn main() -> Result<(), DescriptorError> {
+///     let set = std::fs::read("set.pb").expect("set.pb");
+///     let pool = DescriptorPool::decode(set)?;
+///     println!("{} files", pool.files().len());
+///     Ok(())
+/// }
+/// ```
+///
+/// There may be more reasons, as the calls of the library may end in more ways.
+#[derive(Clone, PartialEq, Eq)]
 #[non_exhaustive]
 pub enum DescriptorError {
     /// The files break rules: the faults of the first pass that finds any, in order.
@@ -41,7 +63,7 @@ pub struct Faults {
     report: String,
 }
 
-/// A rule that files break, and where.
+/// A rule that files break, and where. It may get members, as the report of the library may.
 #[derive(Debug, Clone, PartialEq, Eq, Default)]
 #[non_exhaustive]
 pub struct Fault {
@@ -49,15 +71,9 @@ pub struct Fault {
     pub code: String,
     /// Its text, as `name 'p.M' is defined twice`.
     pub message: String,
-    /// The name of the file, where the fault shows a place, and so `path`.
-    pub file: Option<String>,
-    /// The line where it begins in the source, from 1, where that is known, and so `column`.
-    pub line: Option<u32>,
-    /// The column where it begins in the source, from 1.
-    pub column: Option<u32>,
-    /// The path of the part at fault in the record of its file: numbers of fields, and positions
-    /// from 0.
-    pub path: Option<Vec<i32>>,
+    file: Option<String>,
+    start: Option<Start>,
+    path: Option<Vec<i32>>,
     /// The full name of the innermost declaration, where there is one.
     pub element: Option<String>,
     /// Its second place, or none: the first holder, the range, or what a name means.
@@ -66,21 +82,60 @@ pub struct Fault {
     pub note: String,
 }
 
-/// A place in a file.
+/// A place in a file. It may get members, as the report of the library may.
 #[derive(Debug, Clone, PartialEq, Eq, Default)]
 #[non_exhaustive]
 pub struct Place {
-    /// The name of the file.
-    pub file: Option<String>,
-    /// The line where it begins in the source, from 1, where that is known, and so `column`.
-    pub line: Option<u32>,
-    /// The column where it begins in the source, from 1.
-    pub column: Option<u32>,
-    /// The path in the record of the file.
-    pub path: Option<Vec<i32>>,
+    file: Option<String>,
+    start: Option<Start>,
+    path: Option<Vec<i32>>,
     /// The full name of the innermost declaration, where there is one.
     pub element: Option<String>,
 }
+
+/// Where a part begins in its source, from 0.
+#[derive(Debug, Clone, Copy, PartialEq, Eq)]
+struct Start {
+    line: usize,
+    column: usize,
+}
+
+/// What shows a place in a file.
+macro_rules! placed {
+    ($what:ident) => {
+        impl $what {
+            /// The name of the file, where a place is shown.
+            #[must_use]
+            pub fn file(&self) -> Option<&str> {
+                self.file.as_deref()
+            }
+
+            /// The line at which the part begins in the source, from 0, where the source is known.
+            /// In texts for people lines count from 1.
+            #[must_use]
+            pub fn line(&self) -> Option<usize> {
+                Some(self.start?.line)
+            }
+
+            /// The column at which the part begins in the source, from 0, where the source is
+            /// known. In texts for people columns count from 1.
+            #[must_use]
+            pub fn column(&self) -> Option<usize> {
+                Some(self.start?.column)
+            }
+
+            /// The path of the part in the record of the file, where a place is shown: numbers of
+            /// fields, and positions from 0.
+            #[must_use]
+            pub fn path(&self) -> Option<&[i32]> {
+                self.path.as_deref()
+            }
+        }
+    };
+}
+
+placed!(Fault);
+placed!(Place);
 
 impl Fault {
     pub(crate) fn new(value: &Value) -> Fault {
@@ -90,8 +145,7 @@ impl Fault {
             code: text(value, "code").unwrap_or_default(),
             message: text(value, "message").unwrap_or_default(),
             file: place.file,
-            line: place.line,
-            column: place.column,
+            start: place.start,
             path: place.path,
             element: place.element,
             related: related.iter().map(Place::new).collect(),
@@ -104,11 +158,20 @@ impl Place {
     fn new(value: &Value) -> Place {
         Place {
             file: text(value, "file"),
-            line: number(value, "line"),
-            column: number(value, "column"),
+            start: Start::new(value),
             path: value.member("path").and_then(path),
             element: text(value, "element"),
         }
+    }
+}
+
+impl Start {
+    /// Lines and columns of a report count from 1.
+    fn new(value: &Value) -> Option<Start> {
+        Some(Start {
+            line: number(value, "line")?.checked_sub(1)?,
+            column: number(value, "column")?.checked_sub(1)?,
+        })
     }
 }
 
@@ -116,8 +179,8 @@ fn text(value: &Value, name: &str) -> Option<String> {
     Some(value.member(name)?.as_text()?.to_owned())
 }
 
-fn number(value: &Value, name: &str) -> Option<u32> {
-    u32::try_from(value.member(name)?.as_number()?).ok()
+fn number(value: &Value, name: &str) -> Option<usize> {
+    usize::try_from(value.member(name)?.as_number()?).ok()
 }
 
 fn path(value: &Value) -> Option<Vec<i32>> {
@@ -230,6 +293,30 @@ impl DescriptorError {
             _ => &[],
         }
     }
+
+    /// The name of the file that the first fault shows.
+    #[must_use]
+    pub fn file(&self) -> Option<&str> {
+        self.faults().first()?.file()
+    }
+
+    /// The line that the first fault shows, from 0.
+    #[must_use]
+    pub fn line(&self) -> Option<usize> {
+        self.faults().first()?.line()
+    }
+
+    /// The column that the first fault shows, from 0.
+    #[must_use]
+    pub fn column(&self) -> Option<usize> {
+        self.faults().first()?.column()
+    }
+
+    /// The path that the first fault shows.
+    #[must_use]
+    pub fn path(&self) -> Option<&[i32]> {
+        self.faults().first()?.path()
+    }
 }
 
 /// A text of the report, or where it is not what was expected, the report.
@@ -239,15 +326,16 @@ fn member_or_all(json: &str, name: &str) -> String {
         .unwrap_or_else(|| json.trim_end().to_owned())
 }
 
-/// `FILE:LINE:COLUMN: MESSAGE`, or `FILE: ELEMENT: MESSAGE` where the source is not known.
+/// `FILE:LINE:COLUMN: MESSAGE`, or `FILE: ELEMENT: MESSAGE` where the source is not known. Lines and
+/// columns count from 1.
 impl fmt::Display for Fault {
     fn fmt(&self, f: &mut fmt::Formatter<'_>) -> fmt::Result {
         if let Some(file) = &self.file {
             write!(f, "{file}:")?;
-            match (self.line, self.column, &self.element) {
-                (Some(line), Some(column), _) => write!(f, "{line}:{column}: ")?,
-                (_, _, Some(element)) => write!(f, " {element}: ")?,
-                _ => f.write_str(" ")?,
+            match (self.start, &self.element) {
+                (Some(Start { line, column }), _) => write!(f, "{}:{}: ", line + 1, column + 1)?,
+                (None, Some(element)) => write!(f, " {element}: ")?,
+                (None, None) => f.write_str(" ")?,
             }
         }
         f.write_str(&self.message)
@@ -266,8 +354,14 @@ impl fmt::Display for DescriptorError {
             },
             DescriptorError::Unreadable(words) => f.write_str(words),
             DescriptorError::TooMany(kind) => write!(f, "too many {kind}"),
-            DescriptorError::OutOfMemory => OutOfMemory.fmt(f),
+            DescriptorError::OutOfMemory => fmt::Display::fmt(&OutOfMemory, f),
         }
+    }
+}
+
+impl fmt::Debug for DescriptorError {
+    fn fmt(&self, f: &mut fmt::Formatter<'_>) -> fmt::Result {
+        fmt::Display::fmt(self, f)
     }
 }
 

@@ -6,7 +6,6 @@ use std::fmt;
 
 /// The version of the language in which a file is written.
 #[derive(Debug, Clone, Copy, PartialEq, Eq, Hash)]
-#[non_exhaustive]
 pub enum Syntax {
     /// `proto2`, also where a file says nothing.
     Proto2,
@@ -66,8 +65,30 @@ impl fmt::Display for Cardinality {
 }
 
 /// The type of a field. A group is a message.
+///
+/// A `match` over all kinds needs no arm for others, since protobuf gets no more of them.
+///
+/// ```
+/// use protolink::Kind;
+///
+/// fn rust_type(kind: &Kind) -> &str {
+///     match kind {
+///         Kind::Double => "f64",
+///         Kind::Float => "f32",
+///         Kind::Int32 | Kind::Sint32 | Kind::Sfixed32 => "i32",
+///         Kind::Int64 | Kind::Sint64 | Kind::Sfixed64 => "i64",
+///         Kind::Uint32 | Kind::Fixed32 => "u32",
+///         Kind::Uint64 | Kind::Fixed64 => "u64",
+///         Kind::Bool => "bool",
+///         Kind::String => "String",
+///         Kind::Bytes => "Vec<u8>",
+///         Kind::Message(message) => message.name(),
+///         Kind::Enum(enumeration) => enumeration.name(),
+///     }
+/// }
+/// # assert_eq!(rust_type(&Kind::Sint64), "i64");
+/// ```
 #[derive(Debug, Clone, PartialEq, Eq, Hash)]
-#[non_exhaustive]
 #[allow(missing_docs)]
 pub enum Kind {
     Double,
@@ -203,7 +224,7 @@ impl fmt::Display for Kind {
 }
 
 /// Where something stands in its source, and the comments there, as `SourceCodeInfo.Location` of
-/// descriptor.proto has them.
+/// descriptor.proto has them. It may get members, as that message may.
 #[derive(Debug, Clone, PartialEq, Eq, Hash, Default)]
 #[non_exhaustive]
 pub struct Location {
@@ -222,7 +243,6 @@ pub struct Location {
 
 /// The value of a field, as default values are.
 #[derive(Debug, Clone, PartialEq)]
-#[non_exhaustive]
 pub enum Value {
     /// A value of `bool`.
     Bool(bool),

@@ -32,7 +32,8 @@ pub struct DescriptorPool {
     pub(crate) shared: Arc<Shared>,
 }
 
-/// How much a pool has of each kind that has indexes.
+/// How much a pool has of each kind that has indexes. It may get members, as the library may count
+/// more.
 #[derive(Debug, Clone, Copy, PartialEq, Eq, Hash)]
 #[non_exhaustive]
 pub struct Counts {
@@ -48,7 +49,7 @@ pub struct Counts {
     pub extensions: u32,
 }
 
-/// What became of the files that were to be linked.
+/// What became of the files that were to be linked. It may get members, as the library may count more.
 #[derive(Debug, Clone, Copy, PartialEq, Eq, Hash)]
 #[non_exhaustive]
 pub struct Added {
@@ -62,7 +63,6 @@ pub struct Added {
 
 /// What a full name means.
 #[derive(Debug, Clone, PartialEq, Eq, Hash)]
-#[non_exhaustive]
 pub enum Definition {
     /// A package.
     Package,
@@ -84,7 +84,8 @@ pub enum Definition {
     Extension(ExtensionDescriptor),
 }
 
-/// What a full name means, and where it is declared.
+/// What a full name means, and where it is declared. It may get members, as there may be more to say
+/// of the place.
 #[derive(Debug, Clone, PartialEq, Eq, Hash)]
 #[non_exhaustive]
 pub struct Found {
@@ -268,6 +269,27 @@ impl DescriptorPool {
     /// Where memory was refused.
     pub fn try_encode_to_vec(&self) -> Result<Vec<u8>, OutOfMemory> {
         self.shared.raw.linked()
+    }
+
+    /// Writes the linked files, as the bytes of one `FileDescriptorSet`, to the end of what takes
+    /// bytes, as a `Vec<u8>` does, and a `BytesMut` of the crate `bytes`.
+    ///
+    /// # Errors
+    /// Where memory was refused. Nothing is written then. A buffer that can't grow does what it does
+    /// at other times.
+    pub fn encode(&self, buffer: &mut impl Extend<u8>) -> Result<(), OutOfMemory> {
+        buffer.extend(self.try_encode_to_vec()?);
+        Ok(())
+    }
+
+    /// The linked files in the order of linking, each as the bytes of its `FileDescriptorProto`.
+    ///
+    /// # Panics
+    /// Where memory was refused.
+    pub fn file_descriptor_protos(
+        &self,
+    ) -> impl ExactSizeIterator<Item = Vec<u8>> + DoubleEndedIterator + '_ {
+        self.files().map(|file| file.encode_to_vec())
     }
 
     /// What a full name means, which may have one leading dot.

@@ -1,9 +1,9 @@
-//! What a pool shares with its clones and its descriptors: the pool of the library, and the names
-//! that were asked for.
+//! What a pool shares with its clones and its descriptors: the pool of the library, and the names and
+//! the lists that were asked for.
 
 use crate::ffi;
 use crate::kinds::Location;
-use crate::lists::Lists;
+use crate::lists::{first_of, Below, Scope};
 use crate::once::{Once, Slots};
 use crate::raw::RawPool;
 
@@ -26,12 +26,13 @@ struct FileNames {
     package: Box<str>,
 }
 
-/// The names that were asked for. Those of items are kept by kind, index and position.
+/// The names and the lists that were asked for. The names of items are kept by kind, index and
+/// position, and what is declared in files by kind and file.
 #[derive(Default)]
 struct Kept {
     files: Slots<FileNames>,
     items: [Slots<Slots<Names>>; KINDS],
-    lists: Once<Lists>,
+    lists: [Slots<Below>; KINDS],
 }
 
 /// What a pool shares.
@@ -55,7 +56,7 @@ impl Shared {
         }
     }
 
-    /// Changes the pool, and lets go of the names that were asked for.
+    /// Changes the pool, and lets go of the names and the lists that were asked for.
     pub fn change<T>(&mut self, change: impl FnOnce(&mut RawPool) -> T) -> T {
         self.kept = Kept::default();
         change(&mut self.raw)
@@ -77,8 +78,32 @@ impl Shared {
         &self.file(file).package
     }
 
-    pub fn lists(&self) -> &Lists {
-        self.kept.lists.get(|| Lists::new(&self.raw))
+    /// The items of a kind that are declared in a file. The kind is one of those that have indexes.
+    pub fn below(&self, kind: u32, file: u32) -> &Below {
+        let files = || self.raw.counts().files as usize;
+        let lists = &self.kept.lists[kind as usize];
+        lists.get(files, file as usize, || {
+            let (count, scope) = (self.indexes(kind), |index| self.scope(kind, index));
+            let before = (file as usize).checked_sub(1);
+            let first = match before.and_then(|before| lists.made(before)) {
+                Some(before) => before.end(),
+                None => first_of(file, count, scope),
+            };
+            Below::new(file, first, count, scope)
+        })
+    }
+
+    /// Where an item is declared, of a kind that has indexes.
+    fn scope(&self, kind: u32, index: u32) -> Scope {
+        let raw = &self.raw;
+        let scope = match kind {
+            ffi::MESSAGE => raw.message(index).map(|info| (info.file, info.parent)),
+            ffi::SERVICE => raw.service(index).map(|info| (info.file, ffi::NONE)),
+            ffi::ENUM => raw.enumeration(index).map(|info| (info.file, info.parent)),
+            _ => raw.extension(index).map(|info| (info.file, info.parent)),
+        };
+        let (file, parent) = held(scope);
+        Scope { file, parent }
     }
 
     /// How many indexes there are that items of a kind have.

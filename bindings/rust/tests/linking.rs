@@ -2,8 +2,9 @@
 
 use protolink::{
     Cardinality, Changes, Compatibility, Definition, DescriptorError, DescriptorPool, Direction,
-    Kind, Level, Syntax, Value,
+    FileDescriptor, Kind, Level, MessageDescriptor, Syntax, Value,
 };
+use std::collections::VecDeque;
 use std::fmt::Debug;
 use std::sync::Barrier;
 use std::thread;
@@ -144,6 +145,75 @@ fn files_and_messages_list_what_is_declared_in_them() {
     assert_eq!(names(order.child_messages()), ["shop.v1.Order.Line"]);
     assert_eq!(order.child_enums().len(), 0);
     assert_eq!(order.child_extensions().len(), 0);
+}
+
+/// A file with a message of each depth up to three, and with what may be declared in each.
+fn deep(number: u32) -> String {
+    let extend = |name| format!("extend {name} {}00 optional int32 ~ .base.Open", number + 1);
+    format!(
+        "file {number}.proto\npackage p{number}\nimport base.proto\n\
+        message A\nmessage B\nmessage C\nend\nenum D\nvalue D0 0\nend\nend\n\
+        message E\nend\nenum F\nvalue F0 0\nend\n{}\nend\nmessage G\nend\n\
+        enum H\nvalue H0 0\nend\nservice I\nend\n{}\nend\n",
+        extend("inner"),
+        extend("outer").replace("00 ", "01 "),
+    )
+}
+
+/// The items of a file and of each of its messages, compared with what each item tells of itself.
+fn compare_lists(pool: &DescriptorPool, file: &FileDescriptor) {
+    let messages = pool.all_messages().filter(|m| m.parent_file() == *file);
+    let messages: Vec<_> = messages.collect();
+    let below = |parent: Option<MessageDescriptor>| {
+        let below = messages
+            .iter()
+            .filter(move |m| m.parent_message() == parent);
+        below.cloned().collect::<Vec<_>>()
+    };
+    assert!(file.messages().eq(below(None)));
+    for message in &messages {
+        assert!(message.child_messages().eq(below(Some(message.clone()))));
+        let here = |parent: Option<MessageDescriptor>| parent.as_ref() == Some(message);
+        let enums = pool.all_enums().filter(|e| here(e.parent_message()));
+        assert!(message.child_enums().eq(enums));
+        let extensions = pool.all_extensions();
+        let extensions = extensions.filter(|e| here(e.parent_message()));
+        assert!(message.child_extensions().eq(extensions));
+    }
+    let enums = pool.all_enums().filter(|e| e.parent_file() == *file);
+    assert!(file
+        .enums()
+        .eq(enums.filter(|e| e.parent_message().is_none())));
+    let services = pool.services().filter(|s| s.parent_file() == *file);
+    assert!(file.services().eq(services));
+}
+
+#[test]
+fn lists_are_those_of_each_item_in_whatever_order_they_are_asked_for() {
+    let base = "file base.proto\npackage base\nmessage Open\nextensions 1 10000\nend\nend\n";
+    for order in [[0, 1, 2, 3, 4, 5], [5, 4, 3, 2, 1, 0], [3, 2, 5, 1, 4, 0]] {
+        let mut pool = DescriptorPool::new();
+        for batch in [
+            format!("{base}{}{}", deep(0), deep(1)),
+            format!("file bare.proto\nend\n{}", deep(2)),
+            deep(3),
+        ] {
+            pool.add_script(batch).unwrap();
+        }
+        assert_eq!(pool.files().len(), order.len());
+        for index in order {
+            compare_lists(&pool, &pool.files().nth(index).unwrap());
+        }
+        let last = pool.get_file_by_name("3.proto").unwrap();
+        assert_eq!(names(last.messages()), ["p3.A", "p3.G"]);
+        assert_eq!(names(last.extensions()), ["p3.outer"]);
+        let a = pool.get_message_by_name("p3.A").unwrap();
+        assert_eq!(names(a.child_messages()), ["p3.A.B", "p3.A.E"]);
+        assert_eq!(names(a.child_enums()), ["p3.A.F"]);
+        assert_eq!(names(a.child_extensions()), ["p3.A.inner"]);
+        let bare = pool.get_file_by_name("bare.proto").unwrap();
+        assert_eq!((bare.messages().len(), bare.extensions().len()), (0, 0));
+    }
 }
 
 #[test]
@@ -291,17 +361,21 @@ fn a_refusal_tells_faults_and_changes_nothing() {
     assert_eq!(faults.len(), 2);
     let first = &faults[0];
     assert_eq!(first.code, "NameNotFound");
-    assert_eq!(first.file.as_deref(), Some("a.proto"));
-    assert_eq!((first.line, first.column), (Some(8), Some(9)));
-    assert_eq!(first.path.as_deref(), Some(&[4, 0, 2, 0, 6][..]));
+    assert_eq!(first.file(), Some("a.proto"));
+    assert_eq!((first.line(), first.column()), (Some(7), Some(8)));
+    assert_eq!(first.path(), Some(&[4, 0, 2, 0, 6][..]));
     assert_eq!(first.element.as_deref(), Some("p.M.f"));
     assert_eq!(first.to_string(), format!("a.proto:8:9: {}", first.message));
     assert!(!first.note.is_empty());
-    assert_eq!((faults[1].line, faults[1].column), (None, None));
+    assert_eq!((faults[1].line(), faults[1].column()), (None, None));
     assert_eq!(
         faults[1].to_string(),
         format!("a.proto: p.M.g: {}", first.message)
     );
+    assert_eq!((error.file(), error.path()), (first.file(), first.path()));
+    assert_eq!((error.line(), error.column()), (Some(7), Some(8)));
+    assert_eq!(error.to_string(), format!("{first} (and 1 more)"));
+    assert_eq!(format!("{error:?}"), error.to_string());
     assert!(error.report().starts_with(&format!("{first}\n")));
     assert!(error.report().contains("note: "));
     assert_eq!(pool.encode_to_vec(), before);
@@ -316,8 +390,10 @@ fn a_second_place_is_told() {
         .unwrap_err();
     let fault = &error.faults()[0];
     assert_eq!(fault.code, "DuplicateName");
-    assert_eq!(fault.path.as_deref(), Some(&[4, 1, 1][..]));
-    assert_eq!(fault.related[0].path.as_deref(), Some(&[4, 0, 1][..]));
+    assert_eq!(fault.path(), Some(&[4, 1, 1][..]));
+    assert_eq!(fault.related[0].file(), Some("b.proto"));
+    assert_eq!(fault.related[0].path(), Some(&[4, 0, 1][..]));
+    assert_eq!(fault.related[0].line(), None);
     assert_eq!(fault.related[0].element.as_deref(), Some("A"));
 }
 
@@ -377,6 +453,10 @@ fn what_cannot_be_read_is_told() {
         "{error}"
     );
     assert_eq!(error.faults(), []);
+    assert_eq!((error.file(), error.line()), (None, None));
+    assert_eq!(format!("{error:?}"), error.to_string());
+    let refused = DescriptorError::OutOfMemory;
+    assert_eq!(format!("{refused:?}"), "memory was refused");
     assert_eq!(pool.files().len(), 2);
 }
 
@@ -396,8 +476,31 @@ fn linked_files_are_linked_again() {
     let mut together = DescriptorPool::new();
     together.add_file_descriptor_protos(files).unwrap();
     assert_eq!(together.encode_to_vec(), set);
+    let mut again = DescriptorPool::new();
+    again
+        .add_file_descriptor_protos(pool.file_descriptor_protos())
+        .unwrap();
+    assert_eq!(again.encode_to_vec(), set);
     together.add_file_descriptor_set(&set).unwrap();
     assert_eq!(together.encode_to_vec(), set);
+}
+
+#[test]
+fn linked_files_are_written_to_the_end_of_a_buffer() {
+    let pool = shop();
+    let (mut buffer, mut queue) = (b"before".to_vec(), VecDeque::new());
+    pool.encode(&mut buffer).unwrap();
+    pool.encode(&mut queue).unwrap();
+    assert_eq!(buffer, [b"before", &pool.encode_to_vec()[..]].concat());
+    assert!(queue.into_iter().eq(pool.encode_to_vec()));
+    let mut files = pool.file_descriptor_protos();
+    assert_eq!(files.len(), 2);
+    let base = pool.get_file_by_name("shop/base.proto").unwrap();
+    buffer.clear();
+    base.encode(&mut buffer).unwrap();
+    assert!(buffer.starts_with(b"\x0a\x0fshop/base.proto\x12\x07shop.v1"));
+    assert_eq!(base.file_descriptor_proto(), buffer);
+    assert_eq!(files.next_back(), Some(buffer));
 }
 
 #[test]
@@ -467,7 +570,7 @@ fn a_file_twice_counts_once() {
         faults[0].message,
         "file 1 and file 2 have unequal copies: package"
     );
-    assert_eq!(faults[0].file.as_deref(), Some("a.proto"));
+    assert_eq!(faults[0].file(), Some("a.proto"));
 }
 
 /// What a pool changes of an older one backward.
@@ -496,9 +599,9 @@ fn what_a_pool_changes_of_an_older_one_is_told() {
         change.message,
         "'shop.v1.Order.raw' (5): int32 became sint32"
     );
-    assert_eq!(change.file.as_deref(), Some("shop/order.proto"));
+    assert_eq!(change.file(), Some("shop/order.proto"));
     assert_eq!(change.element.as_deref(), Some("shop.v1.Order.raw"));
-    assert_eq!(change.related[0].path.as_deref(), Some(&[4, 0, 2, 4][..]));
+    assert_eq!(change.related[0].path(), Some(&[4, 0, 2, 4][..]));
     assert!(!change.note.is_empty());
     let at_json = backward(&new, &older, Level::Json);
     assert_eq!((at_json.len(), &at_json[0]), (2, change));

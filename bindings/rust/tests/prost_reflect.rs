@@ -93,6 +93,15 @@ fn pools() -> Result<(), DescriptorError> {
     assert!(DescriptorPool::default()
         .get_message_by_name("shop.v1.Order")
         .is_none());
+    let mut buf = Vec::new();
+    pool.encode(&mut buf)?;
+    assert_eq!(buf, pool.encode_to_vec());
+    buf.clear();
+    file.encode(&mut buf)?;
+    assert_eq!(buf, file.encode_to_vec());
+    let mut copy = DescriptorPool::new();
+    copy.add_file_descriptor_protos(pool.file_descriptor_protos())?;
+    assert_eq!(copy.files().len(), pool.files().len());
     let copy = DescriptorPool::decode(pool.encode_to_vec().as_slice())?;
     assert_eq!(copy.files().len(), pool.files().len());
     *POOL.lock().expect("the lock") = Some(copy);
@@ -182,6 +191,92 @@ fn messages_and_fields() {
     let lines = order.get_field_by_name("lines").unwrap();
     assert_eq!(lines.kind().as_message(), Some(&line));
     assert_eq!(lines.default_value().as_list().map(<[_]>::len), Some(0));
+}
+
+/// The type that code in Rust has for a field. Each kind has an arm, and there is none for others.
+fn rust_type(field: &FieldDescriptor) -> String {
+    let one = match field.kind() {
+        Kind::Double => "f64".to_string(),
+        Kind::Float => "f32".to_string(),
+        Kind::Int32 | Kind::Sint32 | Kind::Sfixed32 => "i32".to_string(),
+        Kind::Int64 | Kind::Sint64 | Kind::Sfixed64 => "i64".to_string(),
+        Kind::Uint32 | Kind::Fixed32 => "u32".to_string(),
+        Kind::Uint64 | Kind::Fixed64 => "u64".to_string(),
+        Kind::Bool => "bool".to_string(),
+        Kind::String => "String".to_string(),
+        Kind::Bytes => "Vec<u8>".to_string(),
+        Kind::Message(message) => message.name().to_string(),
+        Kind::Enum(enumeration) => enumeration.name().to_string(),
+    };
+    match field.cardinality() {
+        Cardinality::Optional => format!("Option<{one}>"),
+        Cardinality::Required => one,
+        Cardinality::Repeated => format!("Vec<{one}>"),
+    }
+}
+
+/// A default as code in Rust has it.
+fn literal(value: &Value) -> String {
+    match value {
+        Value::Bool(value) => value.to_string(),
+        Value::I32(value) | Value::EnumNumber(value) => value.to_string(),
+        Value::I64(value) => value.to_string(),
+        Value::U32(value) => value.to_string(),
+        Value::U64(value) => value.to_string(),
+        Value::F32(value) => value.to_string(),
+        Value::F64(value) => value.to_string(),
+        Value::String(value) => format!("{value:?}"),
+        Value::Bytes(value) => format!("{value:?}"),
+        Value::Message(_) => "None".to_string(),
+        Value::List(_) => "[]".to_string(),
+    }
+}
+
+#[test]
+fn a_generator_matches_on_all_there_is() {
+    let pool = DescriptorPool::decode(&bytes()[..]).unwrap();
+    let order = pool.get_message_by_name("shop.v1.Order").unwrap();
+    let types: Vec<String> = order.fields().map(|field| rust_type(&field)).collect();
+    let wanted = [
+        "i64",
+        "Vec<Line>",
+        "Option<Status>",
+        "Option<String>",
+        "Vec<i32>",
+    ];
+    assert_eq!(types, wanted);
+    let defaults = order.fields().map(|field| literal(&field.default_value()));
+    assert!(defaults.eq(["0", "[]", "5", "\"none\"", "[]"]));
+    let edition = match order.parent_file().syntax() {
+        Syntax::Proto2 => 2,
+        Syntax::Proto3 => 3,
+    };
+    assert_eq!(edition, 2);
+}
+
+/// The set of a file `a.proto` with a message `M`, whose field has the type `.None`, which stands in
+/// line 7 and column 8 of the source, both from 0.
+const FAULTY: &[u8] = b"\
+\n\x30\n\x07a.proto\"\x15\n\x01M\x12\x10\n\x01f\x18\x01 \x01(\x0b2\x05.None\
+J\x0e\n\x0c\n\x05\x04\0\x02\0\x06\x12\x03\x07\x08\x09";
+
+#[test]
+fn errors() {
+    let err: DescriptorError = DescriptorPool::decode(FAULTY).unwrap_err();
+    let path: Option<&[i32]> = err.path();
+    assert_eq!(
+        (err.file(), path),
+        (Some("a.proto"), Some(&[4, 0, 2, 0, 6][..]))
+    );
+    if let (Some(line), Some(column)) = (err.line(), err.column()) {
+        let place = format!("{}:{}:{}", err.file().unwrap(), line + 1, column + 1);
+        assert_eq!(place, "a.proto:8:9");
+    } else {
+        panic!("{err}");
+    }
+    assert!(format!("{err:?}").starts_with("a.proto:8:9: "));
+    let source: Box<dyn std::error::Error> = err.into();
+    assert!(source.to_string().contains(".None"));
 }
 
 #[test]

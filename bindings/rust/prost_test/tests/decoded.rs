@@ -3,13 +3,14 @@
 //!
 //! `PROTOLINK_SETS` may name a folder of descriptor sets, each of which is tried too.
 
+use prost::bytes::BytesMut;
 use prost::Message;
 use prost_types::field_descriptor_proto::{Label, Type};
 use prost_types::{
     DescriptorProto, EnumDescriptorProto, FieldDescriptorProto, FileDescriptorProto,
     FileDescriptorSet,
 };
-use protolink::{Cardinality, DescriptorPool, Kind, MessageDescriptor};
+use protolink::{Cardinality, DescriptorPool, FileDescriptor, Kind, MessageDescriptor};
 use std::path::Path;
 use std::{env, fs};
 
@@ -71,14 +72,51 @@ fn compare(bytes: &[u8]) {
         assert_eq!(file.dependency, dependencies);
         let alone = FileDescriptorProto::decode(&told.encode_to_vec()[..]).expect("one file");
         assert_eq!(&alone, file);
+        compare_lists(file, &told);
         for message in &file.message_type {
             seen += compare_message(&pool, file.package(), message);
         }
         compare_services(&pool, file);
     }
     assert_eq!(seen, pool.all_messages().len());
+    let mut buffer = BytesMut::new();
+    pool.encode(&mut buffer).expect("memory for the set");
+    assert_eq!(buffer, linked);
+    let files = pool.file_descriptor_protos();
+    let files: Result<Vec<_>, _> = files
+        .map(|file| FileDescriptorProto::decode(&file[..]))
+        .collect();
+    assert_eq!(files, Ok(set.file));
     let again = DescriptorPool::decode(&linked).expect("the linked files are linked again");
     assert_eq!(again.encode_to_vec(), linked);
+}
+
+/// Compares the names of what is declared in a file and in no message.
+fn compare_lists(file: &FileDescriptorProto, told: &FileDescriptor) {
+    let names = told.messages().map(|message| message.name().to_string());
+    assert!(names.eq(file
+        .message_type
+        .iter()
+        .map(|message| message.name().to_string())));
+    let names = told
+        .enums()
+        .map(|enumeration| enumeration.name().to_string());
+    assert!(names.eq(file
+        .enum_type
+        .iter()
+        .map(|enumeration| enumeration.name().to_string())));
+    let names = told.services().map(|service| service.name().to_string());
+    assert!(names.eq(file
+        .service
+        .iter()
+        .map(|service| service.name().to_string())));
+    let names = told
+        .extensions()
+        .map(|extension| extension.name().to_string());
+    assert!(names.eq(file
+        .extension
+        .iter()
+        .map(|extension| extension.name().to_string())));
 }
 
 /// The full name of what is declared in a scope.
@@ -103,6 +141,23 @@ fn compare_message(pool: &DescriptorPool, scope: &str, message: &DescriptorProto
     for field in &message.field {
         compare_field(&told, field);
     }
+    let children = told.child_messages().map(|child| child.name().to_string());
+    assert!(children.eq(message
+        .nested_type
+        .iter()
+        .map(|child| child.name().to_string())));
+    let children = told.child_enums().map(|child| child.name().to_string());
+    assert!(children.eq(message
+        .enum_type
+        .iter()
+        .map(|child| child.name().to_string())));
+    let children = told
+        .child_extensions()
+        .map(|child| child.name().to_string());
+    assert!(children.eq(message
+        .extension
+        .iter()
+        .map(|child| child.name().to_string())));
     for (oneof, told) in message.oneof_decl.iter().zip(told.oneofs()) {
         assert_eq!(oneof.name(), told.name());
     }

@@ -86,7 +86,11 @@ impl FileDescriptor {
     pub fn messages(
         &self,
     ) -> impl ExactSizeIterator<Item = MessageDescriptor> + DoubleEndedIterator + '_ {
-        let indexes = self.pool.shared.lists().messages.of_file(self.index);
+        let indexes = self
+            .pool
+            .shared
+            .below(ffi::MESSAGE, self.index)
+            .of(ffi::NONE);
         indexes.map(move |index| MessageDescriptor::new(&self.pool, index))
     }
 
@@ -94,7 +98,7 @@ impl FileDescriptor {
     pub fn enums(
         &self,
     ) -> impl ExactSizeIterator<Item = EnumDescriptor> + DoubleEndedIterator + '_ {
-        let indexes = self.pool.shared.lists().enums.of_file(self.index);
+        let indexes = self.pool.shared.below(ffi::ENUM, self.index).of(ffi::NONE);
         indexes.map(move |index| EnumDescriptor::new(&self.pool, index))
     }
 
@@ -102,7 +106,11 @@ impl FileDescriptor {
     pub fn extensions(
         &self,
     ) -> impl ExactSizeIterator<Item = ExtensionDescriptor> + DoubleEndedIterator + '_ {
-        let indexes = self.pool.shared.lists().extensions.of_file(self.index);
+        let indexes = self
+            .pool
+            .shared
+            .below(ffi::EXTENSION, self.index)
+            .of(ffi::NONE);
         indexes.map(move |index| ExtensionDescriptor::new(&self.pool, index))
     }
 
@@ -110,7 +118,11 @@ impl FileDescriptor {
     pub fn services(
         &self,
     ) -> impl ExactSizeIterator<Item = ServiceDescriptor> + DoubleEndedIterator + '_ {
-        let indexes = self.pool.shared.lists().services.of_file(self.index);
+        let indexes = self
+            .pool
+            .shared
+            .below(ffi::SERVICE, self.index)
+            .of(ffi::NONE);
         indexes.map(move |index| ServiceDescriptor::new(&self.pool, index))
     }
 
@@ -146,6 +158,25 @@ impl FileDescriptor {
     /// Where memory was refused.
     pub fn try_encode_to_vec(&self) -> Result<Vec<u8>, OutOfMemory> {
         Ok(held(self.pool.shared.raw.linked_file(self.index)?))
+    }
+
+    /// Writes the linked file, as the bytes of its `FileDescriptorProto`, to the end of what takes
+    /// bytes, as [`DescriptorPool::encode`] does.
+    ///
+    /// # Errors
+    /// As there.
+    pub fn encode(&self, buffer: &mut impl Extend<u8>) -> Result<(), OutOfMemory> {
+        buffer.extend(self.try_encode_to_vec()?);
+        Ok(())
+    }
+
+    /// As [`encode_to_vec`](Self::encode_to_vec): a record is handed out as its bytes.
+    ///
+    /// # Panics
+    /// As there.
+    #[must_use]
+    pub fn file_descriptor_proto(&self) -> Vec<u8> {
+        self.encode_to_vec()
     }
 }
 

@@ -27,6 +27,12 @@ impl MessageDescriptor {
         held(self.pool.shared.raw.message(self.index))
     }
 
+    /// The indexes of the items of a kind that are declared in it.
+    fn below(&self, kind: u32) -> impl ExactSizeIterator<Item = u32> + DoubleEndedIterator + '_ {
+        let below = self.pool.shared.below(kind, self.info().file);
+        below.of(self.index)
+    }
+
     /// Its fields, in the order of declaration.
     pub fn fields(
         &self,
@@ -45,7 +51,7 @@ impl MessageDescriptor {
     pub fn child_messages(
         &self,
     ) -> impl ExactSizeIterator<Item = MessageDescriptor> + DoubleEndedIterator + '_ {
-        let indexes = self.pool.shared.lists().messages.of_message(self.index);
+        let indexes = self.below(ffi::MESSAGE);
         indexes.map(move |index| MessageDescriptor::new(&self.pool, index))
     }
 
@@ -53,7 +59,7 @@ impl MessageDescriptor {
     pub fn child_enums(
         &self,
     ) -> impl ExactSizeIterator<Item = EnumDescriptor> + DoubleEndedIterator + '_ {
-        let indexes = self.pool.shared.lists().enums.of_message(self.index);
+        let indexes = self.below(ffi::ENUM);
         indexes.map(move |index| EnumDescriptor::new(&self.pool, index))
     }
 
@@ -61,7 +67,7 @@ impl MessageDescriptor {
     pub fn child_extensions(
         &self,
     ) -> impl ExactSizeIterator<Item = ExtensionDescriptor> + DoubleEndedIterator + '_ {
-        let indexes = self.pool.shared.lists().extensions.of_message(self.index);
+        let indexes = self.below(ffi::EXTENSION);
         indexes.map(move |index| ExtensionDescriptor::new(&self.pool, index))
     }
 
