@@ -7,7 +7,7 @@ ghost use Rattle.schema_changes.specs.MapEntries.{map_entry_at};
 ghost use Rattle.schema_changes.specs.Parts.{parts_of};
 ghost use Rattle.pool_changes.specs.FieldParts as spec;
 ghost use Rattle.pool_changes.specs.Removed.{field_record};
-ghost use Rattle.pool_changes.specs.Sides.{side};
+ghost use Rattle.pool_changes.specs.Sides.{side, there};
 
 use crate::pools::parts_of;
 use crate::removed::{field_record, is_synthetic};
@@ -267,7 +267,7 @@ impl<'a> Part<'a> {
         alloc: Global,
         pool: &DescriptorPool,
     ) -> Result<(&'static str, Text), AllocError>
-        ensures { IfOk result (λ shown. spec.there (spec.part self.entry).id shown.0.now shown.1
+        ensures { IfOk result (λ shown. there (spec.part self.entry).id shown.0.now shown.1
             ≡ spec.default_side pool.now (spec.part self.entry)) }
     {
         if let Some(text) = self.default_text(pool) {
