@@ -21,18 +21,13 @@ impl<T> Once<T> {
 }
 
 impl<T: Send + Sync> Once<T> {
-    /// The value, where it is there already.
-    pub fn made(&self) -> Option<&T> {
-        let at = self.at.load(Ordering::Acquire);
-        // SAFETY: what is not null is a box that was given up to this value, which frees it when it
-        // is dropped, and changes it at no other time.
-        unsafe { at.as_ref() }
-    }
-
     /// The value, which is made where it is not there yet.
     pub fn get(&self, make: impl FnOnce() -> T) -> &T {
-        if let Some(value) = self.made() {
-            return value;
+        let at = self.at.load(Ordering::Acquire);
+        if !at.is_null() {
+            // SAFETY: what is not null is a box that was given up to this value, which frees it when
+            // it is dropped, and changes it at no other time.
+            return unsafe { &*at };
         }
         let made = Box::into_raw(Box::new(make()));
         let before =
@@ -42,9 +37,8 @@ impl<T: Send + Sync> Once<T> {
             // SAFETY: as above; `made` is the box that was just given up.
             Ok(_) => unsafe { &*made },
             Err(first) => {
-                // SAFETY: no one else has seen `made`.
+                // SAFETY: no one else has seen `made`. `first` is as above.
                 drop(unsafe { Box::from_raw(made) });
-                // SAFETY: as above: what was there before is not null.
                 unsafe { &*first }
             }
         }
@@ -73,11 +67,6 @@ pub(crate) struct Slots<T> {
 }
 
 impl<T: Send + Sync> Slots<T> {
-    /// The value at a position, where it is there already.
-    pub fn made(&self, at: usize) -> Option<&T> {
-        self.slots.made()?.get(at)?.made()
-    }
-
     /// The value at a position, which is made where it is not there yet. `count` is how many
     /// positions there are.
     pub fn get(&self, count: impl FnOnce() -> usize, at: usize, make: impl FnOnce() -> T) -> &T {
@@ -118,10 +107,7 @@ mod tests {
     #[test]
     fn each_position_has_a_value_of_its_own() {
         let slots = Slots::default();
-        assert_eq!(slots.made(2), None);
         assert_eq!(slots.get(|| 3, 2, || "two".to_owned()), "two");
-        assert_eq!(slots.made(2).map(|two| &two[..]), Some("two"));
-        assert_eq!((slots.made(1), slots.made(9)), (None, None));
         assert_eq!(slots.get(|| 9, 0, || "nought".to_owned()), "nought");
         assert_eq!(slots.get(|| 9, 2, || "other".to_owned()), "two");
     }

@@ -1,9 +1,9 @@
-//! What a pool shares with its clones and its descriptors: the pool of the library, and the names and
-//! the lists that were asked for.
+//! What a pool shares with its clones and its descriptors: the pool of the library, and what was asked
+//! for.
 
 use crate::ffi;
 use crate::kinds::Location;
-use crate::lists::{first_of, Below, Scope};
+use crate::lists::{Below, Scope};
 use crate::once::{Once, Slots};
 use crate::raw::RawPool;
 
@@ -26,12 +26,14 @@ struct FileNames {
     package: Box<str>,
 }
 
-/// The names and the lists that were asked for. The names of items are kept by kind, index and
-/// position, and what is declared in files by kind and file.
+/// What was asked for: names, and what is declared where. Names of items are kept by kind, index and
+/// position, and lists by kind and file.
 #[derive(Default)]
 struct Kept {
+    counts: Once<ffi::Counts>,
     files: Slots<FileNames>,
     items: [Slots<Slots<Names>>; KINDS],
+    scopes: [Slots<Scope>; KINDS],
     lists: [Slots<Below>; KINDS],
 }
 
@@ -56,14 +58,19 @@ impl Shared {
         }
     }
 
-    /// Changes the pool, and lets go of the names and the lists that were asked for.
+    /// Changes the pool, and lets go of what was asked for.
     pub fn change<T>(&mut self, change: impl FnOnce(&mut RawPool) -> T) -> T {
         self.kept = Kept::default();
         change(&mut self.raw)
     }
 
+    /// How much the pool has of each kind. The library is asked once.
+    fn counts(&self) -> &ffi::Counts {
+        self.kept.counts.get(|| self.raw.counts())
+    }
+
     fn file(&self, file: u32) -> &FileNames {
-        let count = || self.raw.counts().files as usize;
+        let count = || self.counts().files as usize;
         self.kept.files.get(count, file as usize, || FileNames {
             name: held(self.raw.file_name(file)),
             package: held(self.raw.file_package(file)),
@@ -78,37 +85,33 @@ impl Shared {
         &self.file(file).package
     }
 
-    /// The items of a kind that are declared in a file. The kind is one of those that have indexes.
+    /// The items of a kind that has indexes, of those that are declared in a file.
     pub fn below(&self, kind: u32, file: u32) -> &Below {
-        let files = || self.raw.counts().files as usize;
-        let lists = &self.kept.lists[kind as usize];
-        lists.get(files, file as usize, || {
-            let (count, scope) = (self.indexes(kind), |index| self.scope(kind, index));
-            let before = (file as usize).checked_sub(1);
-            let first = match before.and_then(|before| lists.made(before)) {
-                Some(before) => before.end(),
-                None => first_of(file, count, scope),
-            };
-            Below::new(file, first, count, scope)
+        let files = || self.counts().files as usize;
+        self.kept.lists[kind as usize].get(files, file as usize, || {
+            Below::new(file, self.indexes(kind), |index| self.scope(kind, index))
         })
     }
 
-    /// Where an item is declared, of a kind that has indexes.
-    fn scope(&self, kind: u32, index: u32) -> Scope {
+    /// Where an item of a kind that has indexes is declared. The library is asked for it once.
+    pub fn scope(&self, kind: u32, index: u32) -> Scope {
+        let indexes = || self.indexes(kind) as usize;
         let raw = &self.raw;
-        let scope = match kind {
-            ffi::MESSAGE => raw.message(index).map(|info| (info.file, info.parent)),
-            ffi::SERVICE => raw.service(index).map(|info| (info.file, ffi::NONE)),
-            ffi::ENUM => raw.enumeration(index).map(|info| (info.file, info.parent)),
-            _ => raw.extension(index).map(|info| (info.file, info.parent)),
-        };
-        let (file, parent) = held(scope);
-        Scope { file, parent }
+        *self.kept.scopes[kind as usize].get(indexes, index as usize, || {
+            let scope = match kind {
+                ffi::MESSAGE => raw.message(index).map(|info| (info.file, info.parent)),
+                ffi::SERVICE => raw.service(index).map(|info| (info.file, ffi::NONE)),
+                ffi::ENUM => raw.enumeration(index).map(|info| (info.file, info.parent)),
+                _ => raw.extension(index).map(|info| (info.file, info.parent)),
+            };
+            let (file, parent) = held(scope);
+            Scope { file, parent }
+        })
     }
 
     /// How many indexes there are that items of a kind have.
     fn indexes(&self, kind: u32) -> u32 {
-        let counts = self.raw.counts();
+        let counts = self.counts();
         match kind {
             ffi::MESSAGE | ffi::FIELD | ffi::ONEOF => counts.messages,
             ffi::SERVICE | ffi::METHOD => counts.services,

@@ -712,7 +712,9 @@ fn told(pool: &DescriptorPool) -> Vec<String> {
         fields.collect::<Vec<_>>()
     });
     let found = pool.find("shop.v1.Order.id").map(|found| found.path);
+    let below = pool.files().map(|file| names(file.messages()).join(" "));
     fields
+        .chain(below)
         .chain([format!("{found:?} {} bytes", pool.encode_to_vec().len())])
         .collect()
 }

@@ -29,8 +29,9 @@ impl MessageDescriptor {
 
     /// The indexes of the items of a kind that are declared in it.
     fn below(&self, kind: u32) -> impl ExactSizeIterator<Item = u32> + DoubleEndedIterator + '_ {
-        let below = self.pool.shared.below(kind, self.info().file);
-        below.of(self.index)
+        let shared = &self.pool.shared;
+        let file = shared.scope(ffi::MESSAGE, self.index).file;
+        shared.below(kind, file).of(self.index)
     }
 
     /// Its fields, in the order of declaration.
