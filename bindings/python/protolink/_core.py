@@ -126,7 +126,7 @@ class Core:
                 self._view.at = None
                 return call(ctypes.byref(self._pool))
             finally:
-                # here stands no call, after which a handler of signals might raise an exception
+                # no call is made here, after which a handler of signals could raise an exception
                 self._view.at = self._pool.at
                 self._calm = calm if self.gone is None else None
 
