@@ -93,13 +93,13 @@ template <typename Element, typename Call> std::optional<std::vector<Element>> l
     return list;
 }
 
-/* How much room most names have, and most texts of changes. What is spared of a text is given back
-   where it is more than the last of these. */
+/* Room in which most names have place, and most texts of changes; and how much room a text may keep
+   that it does not need. */
 constexpr size_t name_room = 64;
 constexpr size_t changes_room = 16384;
 constexpr size_t spare_room = 1024;
 
-/* The same as a text, for which there is some room at first. */
+/* The same as a text. A call is made again where the room is too short. */
 template <typename Call> std::optional<std::string> text_of(Call call, size_t room = name_room)
 {
     std::string text(room, '\0');
@@ -322,7 +322,7 @@ private:
         return item->index;
     }
 
-    /* Notes how long the linked files about are: as long as the bytes of those that were added. */
+    /* Notes about how long the linked files are: as long as the bytes of those that were added. */
     Status grown(protolink_status status, size_t len)
     {
         if (status == PROTOLINK_DONE && added().passed_over == 0)

@@ -172,8 +172,8 @@ static int tell_changes(void)
          == PROTOLINK_NOT_FOUND);
     WANT(length == 7);
     protolink_pool_clear(&new_pool);
-    WANT(is_changed(&new_pool, &old_pool, wire, "\"count\":0"));
-    WANT(is_changed(&new_pool, &old_pool, source, "message-removed"));
+    WANT(is_changed(&new_pool, &old_pool, wire, "message-removed"));
+    WANT(is_changed(&new_pool, &old_pool, source, "file-removed"));
     protolink_pool_clear(&old_pool);
     return 0;
 }

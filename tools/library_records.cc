@@ -3,6 +3,7 @@
 // which an answer was wrong.
 #include <protolink.hpp>
 
+#include <algorithm>
 #include <fstream>
 #include <iterator>
 #include <string>
@@ -94,11 +95,32 @@ bool has_directions()
         && old_pool.changes(new_pool)->find("number-free") != std::string::npos;
 }
 
+/* Whether a text for which there is room is asked for once, and any other twice; and whether it
+   keeps no more room than it needs. */
+bool asked_once()
+{
+    size_t calls = 0;
+    const std::string told(5000, 'a');
+    const auto call = [&](uint8_t *buffer, size_t room, size_t *length) {
+        calls++;
+        *length = told.size();
+        if (room < told.size())
+            return protolink_status(PROTOLINK_SHORT);
+        std::copy(told.begin(), told.end(), buffer);
+        return protolink_status(PROTOLINK_DONE);
+    };
+    const auto once = protolink::detail::text_of(call, protolink::detail::changes_room);
+    const bool is_once = calls == 1 && once == told;
+    return is_once && once->capacity() < told.size() + protolink::detail::spare_room
+        && protolink::detail::text_of(call) == told && calls == 3;
+}
+
 int read_pools(Pool *pool)
 {
     std::optional<Pool> copy = pool->clone();
     WANT(copy && copy->counts().files == pool->counts().files);
     WANT(copy->changes(*pool, Level::source)->find("\"changes\":[]") != std::string::npos);
+    WANT(copy->changes(*pool)->capacity() < 2 * protolink::detail::spare_room);
     WANT(has_directions());
     Pool other = std::move(*copy);
     WANT(other.add_set(*pool->linked()) == Status::done && other.report().empty());
@@ -113,6 +135,7 @@ int read_pools(Pool *pool)
         files.insert(files.begin(), *file.linked());
     WANT(batch.add_files({ files.begin(), files.end() }) == Status::done);
     WANT(batch.counts().files == pool->counts().files && batch.add_files({}) == Status::done);
+    WANT(asked_once());
     *pool = std::move(other);
     pool->clear();
     WANT(pool->counts().files == 0 && pool->files().empty());

@@ -14,7 +14,8 @@ has is told by the names of protobuf's own descriptors, and by those of its desc
 
 The library is `libprotolink.so.0.3`: in the folder that PROTOLINK_LIB_DIR names, else beside this
 file, else where the system finds it. Without it the import raises an ImportError. Threads may share
-a pool: look-ups take no lock, and wait only for calls that change it.
+a pool: look-ups take no lock, and wait only for calls that change it. A call that would wait for its
+own thread, as in a handler of signals, raises a RuntimeError.
 """
 
 from ._library import COMPATIBILITIES, KINDS, LABELS, LEVELS, SONAME, TYPES, version

@@ -69,7 +69,7 @@ class Core:
         """Another object after each change, and None while the pool changes. It stays None where an
         exception tears a change, up to the next look-up, and where the pool is gone."""
         self.gone: Optional[tuple[type[Exception], str]] = None
-        """Why its calls raise an error from now on: `CLOSED` or `LOST`, or None where they do not."""
+        """Why its calls raise an error: `CLOSED` or `LOST`, or None where they raise none."""
         self._linked_len = 0
         """About how long the linked files are."""
         self._below: dict[str, Below] = {}
@@ -126,7 +126,7 @@ class Core:
                 self._view.at = None
                 return call(ctypes.byref(self._pool))
             finally:
-                # here stands no call, after which a handler of signals might raise an exception
+                # no call is made here, after which a handler of signals could raise an exception
                 self._view.at = self._pool.at
                 self._calm = calm if self.gone is None else None
 

@@ -13,26 +13,26 @@ V = TypeVar("V")
 class Turns:
     """The turns of one pool: one change, or any number of long reads.
 
-    Nothing is counted. A turn holds a lock of its own in a `with` statement, so that an exception
-    ends the turn, at whatever moment it comes. What else is noted of a turn counts only while that
-    lock is held. Who waits for a turn to end has no lock meanwhile.
+    Nothing is counted. A turn holds a lock in a `with` statement, so that an exception ends it, at
+    whatever moment it comes. What else is noted of a turn counts only while that lock is held. A
+    call that waits for a turn to end holds no lock meanwhile.
     """
 
     def __init__(self) -> None:
         self.lock = threading.RLock()
-        """Has it who begins a long read, and who changes the pool, up to the end of the change."""
+        """It is held where a long read begins, and by a change to its end."""
         self._change = threading.Lock()
-        """Is held by the change."""
+        """It is held by a change."""
         self._reads: dict[threading.Lock, int] = {}
         """The long reads: the lock that each holds, and its thread."""
 
     def is_within_change(self) -> bool:
-        """Whether the thread, which has the lock, is within a change: one in a handler of signals
-        may be."""
+        """Whether the thread, which has the lock, is within a change, as it may be in a handler of
+        signals."""
         return self._change.locked()
 
     def read(self, begin: Callable[[], V], call: Callable[[V], T]) -> T:
-        """Makes a call that reads for long, of what is taken when no change is under way."""
+        """Makes a call that may read for long. What it reads is taken while nothing changes."""
         read = threading.Lock()
         with read:
             try:
@@ -55,7 +55,7 @@ class Turns:
                     with self._change:
                         return call()
             with read:
-                pass  # it has ended
+                pass
 
     def _long_read(self) -> Optional[threading.Lock]:
         """A long read of another thread that has not ended, or None."""

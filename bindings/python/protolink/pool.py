@@ -114,7 +114,7 @@ class Pool:
         try:
             core.close()
         finally:
-            # here stands no call, after which a handler of signals might raise an exception
+            # no call is made here, after which a handler of signals could raise an exception
             if core.gone is not None:
                 self._core = next_core
         self._forget()
