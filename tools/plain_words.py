@@ -38,7 +38,7 @@ WORDS = {
 
 PATTERNS = {word: re.compile(rf"\b(?:{found})\b", re.IGNORECASE) for word, found in WORDS.items()}
 
-BOUNDS = {"pages": 71, "help": 2, "headers": 0, "texts": 13}
+BOUNDS = {"pages": 70, "help": 2, "headers": 0, "texts": 13}
 """How many each group may have."""
 
 HELP = re.compile(r'^pub(?:\(crate\))? const HELP: &str = ("(?:[^"\\]|\\.)*");', re.MULTILINE | re.DOTALL)
