@@ -1,4 +1,5 @@
 pub mod Nested
 pub mod Told
+pub mod FirstKeys
 pub mod Distinct
 pub mod Chains

@@ -1,4 +1,5 @@
 pub mod Faults
+pub mod Firsts
 pub mod Written
 pub mod Linked
 pub mod Sites

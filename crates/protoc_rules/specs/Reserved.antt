@@ -40,14 +40,11 @@ abbrev pub used_faults : Identity → Entry → Option Entry → List StrictFaul
 used_faults id e None = []
 used_faults id e (Some member) = at_entry kind.ReservedName id member (Some e) ∷ []
 
--- where a name is reserved before a position, if it is
-abbrev pub earlier_name : ReservedNames → ℕ → List ℕ → Option Entry
-earlier_name r n name = entry_at r.tag (position (bytes_eq name) (take n r.names))
-
 -- what the reserved name with a position breaks
 abbrev pub name_faults : Identity → ReservedNames → ℕ → List ℕ → List StrictFault
 name_faults id r n name =
-    pair_faults kind.DuplicateReservedName id (entry r.tag n) (earlier_name r n name)
+    pair_faults kind.DuplicateReservedName id (entry r.tag n)
+    (entry_at r.tag (position (bytes_eq name) (take n r.names)))
     ++ used_faults id (entry r.tag n) (member_named r.members r.member_tag name)
 
 -- what the reserved names of a message or an enum break

@@ -51,12 +51,16 @@ abbrev pub if_differs : List EnumValueDescriptorInner → ℕ → Option ℕ →
 if_differs values n None = None
 if_differs values n (Some k) = if differ values n k then Some k else None
 
+-- that the value with a position has another number than one with an earlier position, if there is
+-- one with its plain name
+abbrev pub clash_with : EnumDescriptorInner → ℕ → Option ℕ → List StrictFault
+clash_with e n first = pair_faults kind.ClashingValues e.id (entry enumeration.VALUE n)
+    (entry_at enumeration.VALUE (if_differs e.values n first))
+
 -- that the value with a position has the plain name of an earlier one, of which the first is told,
 -- and another number than that
 abbrev pub clash_faults : EnumDescriptorInner → List (List ℕ) → ℕ → List ℕ → List StrictFault
-clash_faults e names n name = pair_faults kind.ClashingValues e.id (entry enumeration.VALUE n)
-    (entry_at enumeration.VALUE
-    (if_differs e.values n (position (bytes_eq name) (take n names))))
+clash_faults e names n name = clash_with e n (position (bytes_eq name) (take n names))
 
 -- which values of an enum have the plain names of earlier ones
 abbrev pub value_faults : EnumDescriptorInner → List StrictFault

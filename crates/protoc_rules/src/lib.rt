@@ -6,6 +6,7 @@ mod enums;
 mod extensions;
 mod faults;
 mod fields;
+mod firsts;
 mod imports;
 mod labels;
 pub mod laws;

@@ -1,14 +1,15 @@
 //! Reserved names that are reserved twice, or that a declaration has.
 
-ghost use Rattle.std.specs.Prelude.{◌≡◌, ◌<◌, ◌≤◌, ◌++◌, OnOk, length, position as position_of};
+ghost use Rattle.std.specs.Prelude.{◌≡◌, ◌++◌, OnOk, take, position as position_of};
 ghost use Rattle.std.specs.Str.{bytes_eq};
-ghost use Rattle.protoc_rules.specs.Faults.{told_at};
 ghost use Rattle.protoc_rules.specs.Reserved as spec;
 
 use crate::faults::{Entry, Found, StrictKind, entry_at};
+use crate::firsts::first_with;
 use plain_data::{Text, TextMap};
 use pool_types::Identity;
 use std::alloc::AllocError;
+use std::collections::BTreeMap;
 
 /// The reserved names of a message or an enum, and the names that its fields or values have.
 #[derive(Clone, Copy)]
@@ -20,15 +21,6 @@ pub(crate) struct ReservedNames<'a> {
     pub members: &'a TextMap,
     /// The field number of the list of fields or values.
     pub member_tag: i32,
-}
-
-/// The first of some names that is equal to one.
-fn first_equal(names: &[Text], name: &Text) -> Option<usize>
-    ensures { result ≡ position_of (bytes_eq name.now) names.now }
-{
-    names
-        .iter()
-        .position(|other| name.as_str() == other.as_str())
 }
 
 /// The field or the value with a name.
@@ -59,52 +51,35 @@ fn tell_used(
     }
 }
 
-/// Where a name is reserved before a position, if it is.
-fn earlier_name(reserved: ReservedNames<'_>, position: usize, name: &Text) -> Option<Entry>
-    requires { position ≤ length reserved.names.now }
-    ensures { result ≡ spec.earlier_name (spec.reserved_names reserved.entry) position name.now }
-{
-    let earlier = &reserved.names[..position];
-    entry_at(reserved.tag, first_equal(earlier, name))
+/// A reserved name with its position, and the first position before that at which it is reserved
+/// too, if there is such.
+#[derive(Clone, Copy)]
+struct Named<'a> {
+    name: &'a Text,
+    position: usize,
+    first: Option<usize>,
 }
 
-/// Appends what a reserved name with a position breaks: that it is reserved twice, and that a field
-/// or a value has it.
+/// Appends what a reserved name breaks: that it is reserved twice, and that a field or a value has
+/// it.
 fn tell_name(
     found: &mut Found,
     id: &Identity,
     reserved: ReservedNames<'_>,
-    position: usize,
-    name: &Text,
+    named: Named<'_>,
 ) -> Result<(), AllocError>
-    requires { position ≤ length reserved.names.now }
+    requires { named.first
+        ≡ position_of (bytes_eq named.name.now) (take named.position reserved.names.now) }
     ensures { OnOk result (found.new ≡ found.old
-        ++ spec.name_faults id.now (spec.reserved_names reserved.entry) position name.now) }
+        ++ spec.name_faults id.now (spec.reserved_names reserved.entry) named.entry.position
+        named.entry.name.now) }
 {
-    let tag = reserved.tag;
+    let (tag, position) = (reserved.tag, named.position);
     let entry = Entry { tag, position };
-    let first = earlier_name(reserved, position, name);
-    let member = member_named(reserved.members, reserved.member_tag, name);
+    let first = entry_at(tag, named.first);
+    let member = member_named(reserved.members, reserved.member_tag, named.name);
     found.tell_pair(StrictKind::DuplicateReservedName.of(id), entry, first)?;
     tell_used(found, id, entry, member)
-}
-
-/// Appends what the reserved name with a position breaks.
-fn tell_reserved_name(
-    found: &mut Found,
-    id: &Identity,
-    reserved: ReservedNames<'_>,
-    position: usize,
-) -> Result<(), AllocError>
-    requires { position < length reserved.names.now }
-    ensures { OnOk result (found.new ≡ found.old
-        ++ told_at (spec.name_faults id.now (spec.reserved_names reserved.entry))
-        reserved.entry.names.now position) }
-{
-    match reserved.names.get(position) {
-        Some(name) => tell_name(found, id, reserved, position, name),
-        None => Ok(()),
-    }
 }
 
 /// Appends what each reserved name breaks.
@@ -117,8 +92,15 @@ pub(crate) fn tell_reserved_names(
         ++ spec.reserved_name_faults id.now (spec.reserved_names reserved.entry)) }
 {
     let names = reserved.names;
-    for position in 0..names.len() {
-        tell_reserved_name(found, id, reserved, position)?;
+    let mut firsts = BTreeMap::new(found.alloc());
+    for (position, name) in names.iter().enumerate() {
+        let first = first_with(&mut firsts, name.as_str().as_bytes(), position)?;
+        let named = Named {
+            name,
+            position,
+            first,
+        };
+        tell_name(found, id, reserved, named)?;
     }
     Ok(())
 }

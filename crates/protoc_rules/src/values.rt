@@ -1,17 +1,18 @@
 //! Values of an enum of proto3 whose names are one without the enum's name.
 
-ghost use Rattle.std.specs.Prelude.{◌≡◌, ◌<◌, ◌++◌, IfOk, OnOk, length, position as position_of};
-ghost use Rattle.std.specs.Str.{bytes_eq};
-ghost use Rattle.protoc_rules.specs.Faults.{each_told, told_at};
+ghost use Rattle.std.specs.Prelude.{◌≡◌, ◌++◌, IfOk, OnOk};
+ghost use Rattle.protoc_rules.specs.Faults.{each_told};
 ghost use Rattle.protoc_rules.specs.Values as spec;
 
 use crate::faults::{Entry, Found, StrictKind, entry_at};
+use crate::firsts::first_with;
 use crate::maps::camel_case;
 use crate::names::declared_name;
 use plain_data::Items;
 use pool_types::{EnumDescriptorInner, EnumValueDescriptorInner};
 use proto_types::tag::enum_::VALUE;
 use std::alloc::{AllocError, Global};
+use std::collections::BTreeMap;
 
 /// Whether two names are equal but for the case of ASCII's letters.
 fn are_alike(first: &[u8], second: &[u8]) -> bool
@@ -67,13 +68,6 @@ fn plain_names(
     Ok(names)
 }
 
-/// The position of the first of some names that is equal to one.
-fn first_equal(names: &[Items<u8>], name: &[u8]) -> Option<usize>
-    ensures { result ≡ position_of (bytes_eq name.now) names.now }
-{
-    names.iter().position(|other| name == other.as_slice())
-}
-
 /// Whether the values with two positions have two numbers.
 fn differ(values: &[EnumValueDescriptorInner], position: usize, earlier: usize) -> bool
     ensures { result ≡ spec.differ values.now position earlier }
@@ -98,21 +92,17 @@ fn if_differs(
     }
 }
 
-/// Appends that the value with a position has the plain name of an earlier one and another number.
+/// Appends that the value with a position has another number than the first value with its plain
+/// name, if that is an earlier one.
 fn tell_clash(
     found: &mut Found,
     enumeration: &EnumDescriptorInner,
-    names: &[Items<u8>],
     position: usize,
+    first: Option<usize>,
 ) -> Result<(), AllocError>
-    requires { position < length names.now }
-    ensures { OnOk result (found.new ≡ found.old
-        ++ told_at (spec.clash_faults enumeration.now names.now) names.now position) }
+    ensures { OnOk result (found.new
+        ≡ found.old ++ spec.clash_with enumeration.now position first) }
 {
-    let Some(name) = names.get(position) else {
-        return Ok(());
-    };
-    let first = first_equal(&names[..position], name.as_slice());
     let first = if_differs(enumeration.values.as_slice(), position, first);
     let tag = VALUE;
     found.tell_pair(
@@ -131,8 +121,10 @@ fn tell_clashes(
     ensures { OnOk result (found.new ≡ found.old
         ++ each_told (spec.clash_faults enumeration.now names.now) names.now) }
 {
-    for position in 0..names.len() {
-        tell_clash(found, enumeration, names, position)?;
+    let mut firsts = BTreeMap::new(found.alloc());
+    for (position, name) in names.iter().enumerate() {
+        let first = first_with(&mut firsts, name.as_slice(), position)?;
+        tell_clash(found, enumeration, position, first)?;
     }
     Ok(())
 }
