@@ -2,7 +2,6 @@
 use Rattle.std.specs.Prelude.{◌≡◌, ◌↔◌, ℕ, zero, suc, nat_eq, nat_lt, Bool, true, false, ◌==◌}
 use Rattle.std.specs.Prelude.{List, [], ◌∷◌, ◌++◌, length, map, position, slice_index_or, take}
 use Rattle.std.specs.List.{Contains, IsDistinct, list_any}
-use Rattle.std.specs.declared.option.Option.{Option}
 use Rattle.plain_data.specs.Lists.{only_if}
 use Rattle.proto_types.specs.Readers.{text_of}
 use Rattle.proto_types.specs.declared.tag.file.TheConstants.{DEPENDENCY, NAME}
@@ -17,14 +16,14 @@ use Rattle.protoc_rules.specs.Packages.{package_faults}
 abbrev pub file_id : ℕ → Identity
 file_id n = record { file = n; path = []; full_name = []; name_index = 0 }
 
--- that the import with a position is of a file that is imported before, of which the first is told
-abbrev pub import_again : Identity → ℕ → Option ℕ → List StrictFault
-import_again id n first =
-    pair_faults kind.DuplicateImport id (entry DEPENDENCY n) (entry_at DEPENDENCY first)
+-- whether two indexes are one
+abbrev pub is_same : ℕ → ℕ → Bool
+is_same file other = file == other
 
--- the same of the import with a position of some imports
+-- that the import with a position is of a file that is imported before
 abbrev pub import_faults : Identity → List ℕ → ℕ → ℕ → List StrictFault
-import_faults id imports n f = import_again id n (position (nat_eq f) (take n imports))
+import_faults id imports n f = pair_faults kind.DuplicateImport id (entry DEPENDENCY n)
+    (entry_at DEPENDENCY (position (is_same f) (take n imports)))
 
 -- the files that each file imports, by their indexes
 abbrev pub imports : List FileDescriptorInner → List (List ℕ)

@@ -1,19 +1,18 @@
 //! What files may not be, and what they may not import.
 
-ghost use Rattle.std.specs.Prelude.{◌≡◌, ◌++◌, ℕ, true, OnOk, IfOk, map};
+ghost use Rattle.std.specs.Prelude.{◌≡◌, ◌<◌, ◌++◌, ℕ, true, OnOk, IfOk, length, map};
+ghost use Rattle.std.specs.Prelude.{position as position_of};
 ghost use Rattle.std.specs.List.{list_any};
-ghost use Rattle.protoc_rules.specs.Faults.{each_told};
+ghost use Rattle.protoc_rules.specs.Faults.{each_told, told_at};
 ghost use Rattle.protoc_rules.specs.Imports as spec;
 
 use crate::Linked;
 use crate::faults::{Entry, Found, StrictKind, entry_at};
-use crate::firsts::first_numbered;
 use crate::packages::tell_package;
 use plain_data::{Items, Path, Text};
 use pool_types::{FileDescriptorInner, Identity};
 use proto_types::tag::file::{DEPENDENCY, NAME};
 use std::alloc::{AllocError, Global};
-use std::collections::BTreeMap;
 
 /// A file as an item whose parts are told. An index past those of a pool asks for more room than
 /// can be granted.
@@ -34,20 +33,33 @@ fn file_id(alloc: Global, index: usize) -> Result<Identity, AllocError>
     }
 }
 
-/// Appends that the import with a position is of a file that is imported first before, if it is.
+/// The position of the first of some files that is one.
+fn first_same(files: &[u32], file: u32) -> Option<usize>
+    ensures { result ≡ position_of (spec.is_same file) files.now }
+{
+    files.iter().position(|other| file == *other)
+}
+
+/// Appends that the import with a position is of a file that is imported before.
 fn tell_import(
     found: &mut Found,
     id: &Identity,
+    imports: &[u32],
     position: usize,
-    first: Option<usize>,
 ) -> Result<(), AllocError>
-    ensures { OnOk result (found.new ≡ found.old ++ spec.import_again id.now position first) }
+    requires { position < length imports.now }
+    ensures { OnOk result (found.new ≡ found.old
+        ++ told_at (spec.import_faults id.now imports.now) imports.now position) }
 {
+    let Some(import) = imports.get(position) else {
+        return Ok(());
+    };
     let tag = DEPENDENCY;
+    let first = entry_at(tag, first_same(&imports[..position], *import));
     found.tell_pair(
         StrictKind::DuplicateImport.of(id),
         Entry { tag, position },
-        entry_at(tag, first),
+        first,
     )
 }
 
@@ -56,10 +68,8 @@ fn tell_imports(found: &mut Found, id: &Identity, imports: &[u32]) -> Result<(),
     ensures { OnOk result (found.new
         ≡ found.old ++ each_told (spec.import_faults id.now imports.now) imports.now) }
 {
-    let mut firsts = BTreeMap::new(found.alloc());
-    for (position, file) in imports.iter().enumerate() {
-        let first = first_numbered(&mut firsts, *file, position)?;
-        tell_import(found, id, position, first)?;
+    for position in 0..imports.len() {
+        tell_import(found, id, imports, position)?;
     }
     Ok(())
 }
