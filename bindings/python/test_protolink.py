@@ -1260,13 +1260,15 @@ class Forks(unittest.TestCase):
     def test_a_pool_that_was_being_changed_is_lost_to_the_child(self) -> None:
         pool = shop()
         order = pool.message("shop.Order")
-        self.assertEqual(order.name, "Order")
+        self.assertEqual((order.name, pool.file("shop/base.proto").index), ("Order", 1))
 
         def child() -> None:
             for call in (
                 *CHANGES[:2],
                 lambda pool: pool.find("shop.Order"),
                 lambda pool: pool["shop.Order"],
+                lambda pool: pool.message("shop.Order"),
+                lambda pool: pool.file("shop/base.proto"),
                 lambda pool: pool.linked(),
                 lambda pool: pool.clone(),
                 lambda pool: pool.changes(pool),
