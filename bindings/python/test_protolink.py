@@ -555,6 +555,21 @@ class Descriptors(unittest.TestCase):
         self.assertEqual(pool.message("tour.Outer").name, "Outer")
         self.assertNotEqual(pool.message("tour.Outer"), outer)
 
+    def test_threads_that_close_a_pool_at_once_close_it_once(self) -> None:
+        pool, ends = shop(), []
+        close = pool._core.close
+
+        def close_twice() -> None:
+            close()
+            ends.append(pool)
+            if len(ends) == 1:
+                pool.close()
+                pool.add_script(TOUR)
+
+        pool._core.close = close_twice
+        pool.close()
+        self.assertEqual(pool.message("tour.Outer").name, "Outer")
+
     @staticmethod
     def answers(item: object) -> list[str]:
         """The properties of a descriptor, but those of which the pool is not asked: they are none,
