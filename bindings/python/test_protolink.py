@@ -555,6 +555,21 @@ class Descriptors(unittest.TestCase):
         self.assertEqual(pool.message("tour.Outer").name, "Outer")
         self.assertNotEqual(pool.message("tour.Outer"), outer)
 
+    def test_threads_that_close_a_pool_at_once_close_it_once(self) -> None:
+        pool, ends = shop(), []
+        close = pool._core.close
+
+        def close_twice() -> None:
+            close()
+            ends.append(pool)
+            if len(ends) == 1:
+                pool.close()
+                pool.add_script(TOUR)
+
+        pool._core.close = close_twice
+        pool.close()
+        self.assertEqual(pool.message("tour.Outer").name, "Outer")
+
     @staticmethod
     def answers(item: object) -> list[str]:
         """The properties of a descriptor, but those of which the pool is not asked: they are none,
@@ -1260,13 +1275,15 @@ class Forks(unittest.TestCase):
     def test_a_pool_that_was_being_changed_is_lost_to_the_child(self) -> None:
         pool = shop()
         order = pool.message("shop.Order")
-        self.assertEqual(order.name, "Order")
+        self.assertEqual((order.name, pool.file("shop/base.proto").index), ("Order", 1))
 
         def child() -> None:
             for call in (
                 *CHANGES[:2],
                 lambda pool: pool.find("shop.Order"),
                 lambda pool: pool["shop.Order"],
+                lambda pool: pool.message("shop.Order"),
+                lambda pool: pool.file("shop/base.proto"),
                 lambda pool: pool.linked(),
                 lambda pool: pool.clone(),
                 lambda pool: pool.changes(pool),

@@ -37,7 +37,10 @@ def exact(data: Any) -> bytes:
 def name_bytes(name: Name) -> bytes:
     """A name. What is no text means nothing to the library."""
     if isinstance(name, str):
-        return str.encode(name, "utf-8", "surrogatepass")
+        try:
+            return str.encode(name)
+        except UnicodeEncodeError:
+            return str.encode(name, "utf-8", "surrogatepass")
     return exact(only(name, bytes, "a name is a str"))
 
 

@@ -148,6 +148,9 @@ class Core:
         if self._turns.end_others():
             self.gone = LOST
             self._calm = self._view.at = self._pool.at = None
+            owner = None if self.owner is None else self.owner()
+            if owner is not None:
+                owner._forget()
 
     def add(self, call: Callable[..., int], data: bytes, *more: object) -> RawAdded:
         """Links files and answers what became of them, or raises why they are not linked."""

@@ -115,7 +115,7 @@ class Pool:
             core.close()
         finally:
             # no call is made here, after which a handler of signals could raise an exception
-            if core.gone is not None:
+            if core.gone is not None and self._core is core:
                 self._core = next_core
         self._forget()
 
