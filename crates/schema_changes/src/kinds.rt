@@ -3,14 +3,21 @@
 ghost use Rattle.std.specs.Prelude.{◌≡◌, ◌||◌};
 ghost use Rattle.std.specs.List.{list_all};
 ghost use Rattle.pool_types.specs.declared.kinds.KindIndex.TheVariants as kind;
-ghost use Rattle.schema_changes.specs.Parts.{parts, has_value};
+ghost use Rattle.schema_changes.specs.Parts.{parts, has_value, values_of};
 ghost use Rattle.schema_changes.specs.Kinds.{holds, holds_all, is_plain};
 ghost use Rattle.schema_changes.specs.Kinds.{keeps_numbers, text_check, keeps_check, entry_check};
 ghost use Rattle.schema_changes.specs.Kinds.{messages_of, keeps_cardinality};
 
-use crate::parts::{has_value, has_value_near};
+use crate::parts::{has_value_by, has_value_near};
 use crate::{Entry, Parts};
 use pool_types::{Cardinality, EnumValueDescriptorInner, KindIndex};
+
+/// Whether an enum has a value with a number.
+fn has_number(items: &Parts<'_>, index: u32, number: i32) -> bool
+    ensures { result ≡ has_value (values_of (parts items.now) index) number }
+{
+    has_value_by(items.values(index), items.value_numbers(index), number)
+}
 
 /// Whether a number of 32 bits is one of a kind that is encoded as int32 is.
 #[tactic(auto, unfolding(crate::specs::Kinds::holds))]
@@ -21,7 +28,7 @@ pub(crate) fn holds(items: &Parts<'_>, kind: KindIndex, number: i32) -> bool
         KindIndex::Int32 | KindIndex::Int64 => true,
         KindIndex::Uint32 | KindIndex::Uint64 => number >= 0,
         KindIndex::Bool => number == 0 || number == 1,
-        KindIndex::Enum(index) => items.is_open(index) || has_value(items.values(index), number),
+        KindIndex::Enum(index) => items.is_open(index) || has_number(items, index, number),
         _ => false,
     }
 }
@@ -53,12 +60,17 @@ pub(crate) fn is_plain(kind: KindIndex) -> bool
     )
 }
 
-/// Whether values have the numbers of others, of which most stand at the same positions.
-fn has_each(values: &[EnumValueDescriptorInner], others: &[EnumValueDescriptorInner]) -> bool
+/// Whether values, with a list of their numbers, have the numbers of others, of which most stand at
+/// the same positions.
+fn has_each(
+    values: &[EnumValueDescriptorInner],
+    numbers: &[(i32, u32)],
+    others: &[EnumValueDescriptorInner],
+) -> bool
     ensures { result ≡ list_all (λ v. has_value values.now v.number) others.now }
 {
     for (position, other) in others.iter().enumerate() {
-        if !has_value_near(values, position, other.number) {
+        if !has_value_near(values, numbers, position, other.number) {
             return false;
         }
     }
@@ -70,7 +82,7 @@ fn enum_holds_each(items: &Parts<'_>, index: u32, values: &[EnumValueDescriptorI
     ensures { result
         ≡ list_all (λ v. holds (parts items.now) (kind.Enum index) v.number) values.now }
 {
-    items.is_open(index) || has_each(items.values(index), values)
+    items.is_open(index) || has_each(items.values(index), items.value_numbers(index), values)
 }
 
 /// Whether the numbers of values are numbers of a kind.

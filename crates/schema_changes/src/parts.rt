@@ -52,6 +52,15 @@ impl<'a> Parts<'a> {
         }
     }
 
+    /// The numbers of the values of an enum in order, each with the position of its value, as the
+    /// enum has them. Nothing is said of them here: what they lead to is looked at.
+    pub(crate) fn value_numbers(self, index: u32) -> &'a [(i32, u32)] {
+        match self.enums.get(index as usize) {
+            Some(enumeration) => enumeration.value_numbers.as_slice(),
+            None => &[],
+        }
+    }
+
     /// Whether a message has the full name of one of another pool.
     #[inline(always)]
     #[tactic(auto, unfolding(crate::specs::Parts::one_name))]
@@ -69,7 +78,7 @@ impl<'a> Parts<'a> {
 }
 
 /// Whether values have a number.
-pub(crate) fn has_value(values: &[EnumValueDescriptorInner], number: i32) -> bool
+fn has_value(values: &[EnumValueDescriptorInner], number: i32) -> bool
     ensures { result ≡ has_value values.now number }
 {
     values.iter().any(|value| value.number == number)
@@ -86,13 +95,36 @@ fn is_value_at(values: &[EnumValueDescriptorInner], position: usize, number: i32
     }
 }
 
-/// Whether values have a number. Mostly the one at a position has it.
+/// Whether a list of numbers with positions, in order, leads to a value with a number.
+fn is_value_listed(values: &[EnumValueDescriptorInner], numbers: &[(i32, u32)], number: i32) -> bool
+    ensures { IsTrue result → has_value values.now number ≡ true }
+{
+    match numbers.binary_search_by_key(&number, |entry| entry.0) {
+        Ok(at) => is_value_at(values, numbers[at].1 as usize, number),
+        Err(_) => false,
+    }
+}
+
+/// Whether values have a number. Mostly a list of their numbers leads to it.
+pub(crate) fn has_value_by(
+    values: &[EnumValueDescriptorInner],
+    numbers: &[(i32, u32)],
+    number: i32,
+) -> bool
+    ensures { result ≡ has_value values.now number }
+{
+    is_value_listed(values, numbers, number) || has_value(values, number)
+}
+
+/// Whether values have a number. Mostly the one at a position has it, or a list of their numbers
+/// leads to it.
 pub(crate) fn has_value_near(
     values: &[EnumValueDescriptorInner],
+    numbers: &[(i32, u32)],
     position: usize,
     number: i32,
 ) -> bool
     ensures { result ≡ has_value values.now number }
 {
-    is_value_at(values, position, number) || has_value(values, number)
+    is_value_at(values, position, number) || has_value_by(values, numbers, number)
 }
