@@ -6,10 +6,12 @@ ghost use Rattle.joined_files.specs.Telling.{passed_words};
 ghost use Rattle.record_walk.specs.Counts.{counts_in};
 ghost use Rattle.verdict_texts.specs.Formats as formats;
 ghost use Rattle.descriptor_check.specs.Answers as spec;
+ghost use Rattle.descriptor_check.specs.Arguments as arguments;
 ghost use Rattle.descriptor_check.specs.Complaints.{complaint};
 ghost use Rattle.descriptor_check.specs.declared.answer.Status.TheVariants.{Accepted};
 
 use crate::answer::{Answer, LinkedSet, Status, Wanted};
+use crate::arguments::help;
 use crate::batches::{BatchError, NotASet, read_batch};
 use crate::complaints::{no_answer, write_complaint};
 use crate::described::{unknown_names, write_names};
@@ -308,4 +310,11 @@ pub(crate) fn tell(alloc: Global, words: &str) -> Result<Answer, AllocError>
     ensures { IfOk result (λ answer. answer ≡ spec.told Accepted words.now) }
 {
     Ok(told_by(alloc, Status::Accepted, String::from_str(alloc, words)?))
+}
+
+/// The answer that shows what the program does, and its arguments.
+pub(crate) fn tell_help(alloc: Global) -> Result<Answer, AllocError>
+    ensures { IfOk result (λ answer. answer ≡ spec.told Accepted arguments.help) }
+{
+    Ok(told_by(alloc, Status::Accepted, help(alloc)?))
 }

@@ -7,8 +7,8 @@ ghost use Rattle.descriptor_check.specs.Runs as spec;
 
 use crate::against::check_against;
 use crate::answer::{Answer, LinkedSet, Status};
-use crate::arguments::{Job, Request, VERSION, help, read_arguments};
-use crate::checking::tell;
+use crate::arguments::{Job, Request, VERSION, read_arguments};
+use crate::checking::{tell, tell_help};
 use crate::complaints::{complain, complain_of_arguments, write_complaint};
 use crate::devices::{CheckDevices, DeviceError};
 use crate::inputs::Input;
@@ -57,7 +57,7 @@ fn answer_words<D: CheckDevices>(
 {
     match read_arguments(alloc, words)? {
         Request::Check(job) => check_files(alloc, devices, &job),
-        Request::Help => tell(alloc, help(alloc)?.as_str()),
+        Request::Help => tell_help(alloc),
         Request::Version => tell(alloc, VERSION),
         Request::Wrong(words) => complain_of_arguments(alloc, words.as_str()),
     }

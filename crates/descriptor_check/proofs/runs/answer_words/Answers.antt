@@ -9,4 +9,4 @@ use Rattle.descriptor_check.proofs.runs.answer_words.Goals as goal
 pub returns-in-Help : goal.returns-in-Help
 returns-in-Help g c =
     let asked : Help ≡ request_of c.args.words.now = sym c.in-Help.is ∙ c.in_ok-job.ensures in
-    if-ok c.tell.result (λ a told. subst (λ r. Asked (g.D.CheckDevices.told c.args.devices.now).bytes_of r a) asked told) c.tell.ensures
+    if-ok c.tell_help.result (λ a told. subst (λ r. Asked (g.D.CheckDevices.told c.args.devices.now).bytes_of r a) asked told) c.tell_help.ensures
