@@ -20,8 +20,6 @@ the program gives no verdict. Needed is protobuf's Python package (python3-proto
 from __future__ import annotations
 
 import argparse
-import re
-import resource
 import shutil
 import subprocess
 import sys
@@ -34,6 +32,9 @@ from google.protobuf.descriptor_pb2 import DescriptorProto, EnumDescriptorProto
 from google.protobuf.descriptor_pb2 import FieldDescriptorProto, FileDescriptorProto
 from google.protobuf.descriptor_pb2 import FileDescriptorSet, MessageOptions
 
+from library_speed import ToolError, collected
+from library_uses import timed
+
 UNKNOWN = bytes((0xF8, 0x3E, 0x01))
 """An option that no version knows: number 1007, the value 1."""
 
@@ -43,10 +44,6 @@ INT32, INT64, ENUM, MESSAGE = (
     FieldDescriptorProto.TYPE_ENUM,
     FieldDescriptorProto.TYPE_MESSAGE,
 )
-
-
-class ToolError(Exception):
-    """Why nothing can be shown."""
 
 
 class Shape(NamedTuple):
@@ -218,35 +215,25 @@ def command(check: Path, shape: Shape, size: int, room: Path) -> tuple[list[str]
     return words, sum(path.stat().st_size for path in paths)
 
 
-def spent() -> float:
-    """The processor time of all runs so far."""
-    children = resource.getrusage(resource.RUSAGE_CHILDREN)
-    return children.ru_utime + children.ru_stime
-
-
-def timed(words: list[str]) -> float:
+def seconds_of(words: list[str]) -> float:
     """The processor time of a run, which must give a verdict."""
-    before = spent()
-    done = subprocess.run(words, stdout=subprocess.DEVNULL, stderr=subprocess.PIPE, text=True)
+    seconds, done = timed(words, stderr=subprocess.PIPE)
     if done.returncode not in (0, 1):
         raise ToolError(f"status {done.returncode}: {done.stderr.strip().splitlines()[-1:]}")
-    return spent() - before
+    return seconds
 
 
 def counted(words: list[str]) -> float:
     """The instructions of a run, in millions."""
     valgrind = ["valgrind", "--tool=callgrind", "--callgrind-out-file=/dev/null"]
     done = subprocess.run([*valgrind, *words], capture_output=True, text=True, errors="replace")
-    found = re.search(r"Collected : (\d+)", done.stderr)
-    if not found:
-        raise ToolError("valgrind counted nothing")
-    return int(found[1]) / 1e6
+    return collected(done.stderr)
 
 
 def figures(check: Path, shape: Shape, size: int, counts: bool) -> Figures:
     with tempfile.TemporaryDirectory() as room:
         words, read = command(check, shape, size, Path(room))
-        return Figures(read, timed(words), counted(words) if counts else None)
+        return Figures(read, seconds_of(words), counted(words) if counts else None)
 
 
 def row(name: str, size: object, read: object, seconds: str, million: str) -> str:

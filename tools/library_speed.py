@@ -238,16 +238,21 @@ def rows(room: Path) -> Iterator[tuple[str, bytes]]:
     )
 
 
+def collected(said: str) -> float:
+    """The millions of instructions that callgrind says it counted."""
+    found = re.search(r"Collected : (\d+)", said)
+    if not found or found[1] == "0":
+        raise ToolError("callgrind counted nothing")
+    return int(found[1]) / 1e6
+
+
 def instructions(program: Path, counted: str, set_: Path) -> float:
     """The millions of instructions of a function in a run over a set."""
     said = must([
         *("valgrind", "--tool=callgrind", "--callgrind-out-file=/dev/null"),
         *(f"--toggle-collect={counted}", str(program), str(set_)),
     ])
-    found = re.search(r"Collected : (\d+)", said)
-    if not found or found[1] == "0":
-        raise ToolError("callgrind counted nothing")
-    return int(found[1]) / 1e6
+    return collected(said)
 
 
 def built(source: Path, text: str, *words: str) -> Path:

@@ -24,6 +24,8 @@ from collections.abc import Iterator
 from pathlib import Path
 from typing import NamedTuple
 
+import measures
+
 TOP = Path(__file__).resolve().parent.parent
 
 WORDS = {
@@ -115,10 +117,10 @@ def is_tool(path: Path) -> bool:
 
 def crate_files() -> Iterator[Path]:
     """The code of what users run or link."""
-    for path in sorted((TOP / "crates").glob("*/src/**/*.rt")):
-        if not re.match(r"test_|example_", path.relative_to(TOP / "crates").parts[0]):
-            if "tests" not in path.parts:
-                yield path
+    for path in measures.files("src/**/*.rt"):
+        crate = path.relative_to(measures.CRATES).parts[0]
+        if not crate.startswith("example_") and "tests" not in path.parts:
+            yield path
 
 
 def texts() -> Iterator[tuple[str, Path, str]]:
@@ -160,15 +162,17 @@ def counts() -> Counter:
 
 def tell(found: list[Place]) -> bool:
     """Prints the counts, and answers whether each group keeps its bound."""
+    kept = []
     for group, most in BOUNDS.items():
         of_group = [place for place in found if place.group == group]
         by_word = Counter(place.word for place in of_group)
-        mark = ", too many" if len(of_group) > most else ""
+        kept.append(len(of_group) <= most)
+        mark = "" if kept[-1] else ", too many"
         words = ", ".join(f"{word} {by_word[word]}" for word in WORDS)
         print(f"{len(of_group):5} of at most {most}: {group} ({words}){mark}")
         for path, count in sorted(Counter(place.path for place in of_group).items()):
             print(f"{count:9} {path}")
-    return all(sum(it.group == group for it in found) <= most for group, most in BOUNDS.items())
+    return all(kept)
 
 
 def main() -> int:

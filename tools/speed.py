@@ -40,6 +40,7 @@ from pathlib import Path
 from typing import Optional
 
 import library_speed
+from library_speed import ToolError, collected
 
 TOP = Path(__file__).resolve().parent.parent
 TWELVE_FILES = TOP / "crates/test_rows/data/scripts/protoc/well_known.script"
@@ -49,10 +50,6 @@ MORE = 1.02
 """How many times what the page tells is seen as dearer."""
 LINKED = "*DescriptorPool::build_files*"
 SET_CALLS = {"three times `decode`": "*decoding::decode", "twice `encode`": "*encoding::encode"}
-
-
-class ToolError(Exception):
-    """What keeps the tool from counting."""
 
 
 FIGURES = ("million", "million of the whole", "requests", "kB")
@@ -355,11 +352,7 @@ def instructions(words: list[str], counted: str, given: Path, folder: Path) -> f
     valgrind = ["valgrind", "--tool=callgrind", f"--callgrind-out-file={out}"]
     if counted:
         valgrind.append(f"--toggle-collect={counted}")
-    said = run([*valgrind, *words], given)
-    found = re.search(r"Collected : (\d+)", said)
-    if not found or found[1] == "0":
-        raise ToolError("callgrind counted nothing")
-    return int(found[1]) / 1e6
+    return collected(run([*valgrind, *words], given))
 
 
 def heap(program: str, script: Path, folder: Path) -> tuple[int, int]:
@@ -399,7 +392,7 @@ def main() -> None:
             raise ToolError(f"the page lacks {len(table.unknown)} rows: {'; '.join(table.unknown)}")
         print(f"{table.passed} passed, {table.failed} failed")
         sys.exit(1 if table.failed else 0)
-    except (ToolError, library_speed.ToolError, OSError) as error:
+    except (ToolError, OSError) as error:
         print(f"speed.py: {error}", file=sys.stderr)
         sys.exit(2)
 
