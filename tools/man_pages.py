@@ -1,5 +1,5 @@
-"""Manual pages and completions of bash, made of texts that are there: of `check_descriptors
---help`, of docs/CHECK.md and docs/SCRIPT.md, and of the header.
+"""Manual pages, made of texts that are there: of what --help prints, of docs/CHECK.md and
+docs/SCRIPT.md, and of the header.
 
 A page of Markdown becomes a manual page by the forms that the documents have: headings, paragraphs,
 lists, tables, indented blocks, and in a line code, bold words and links, of which the words stay.
@@ -157,6 +157,11 @@ def block(kind: str, run: list[str]) -> Iterator[str]:
         yield from (".PP", guarded(inline(run[0])))
 
 
+def section(text: str, title: str) -> str:
+    """The body of a section of a page."""
+    return text.split(f"\n## {title}\n", 1)[1].split("\n## ", 1)[0]
+
+
 def of_markdown(text: str) -> Iterator[str]:
     """The body of a page, without its title and its list of sections."""
     yield ".SH DESCRIPTION"
@@ -219,40 +224,3 @@ def page(title: Title, release: Release, *parts: Iterator[str]) -> str:
     head = f'.TH {title.name.upper()} {title.section} "{release.date}" "protolink {release.version}"'
     lines = [head, ".SH NAME", f"{title.name} \\- {escaped(title.does)}"]
     return "\n".join((*lines, *(line for part in parts for line in part))) + "\n"
-
-
-# Completions
-
-COMPLETION = """\
-# Completions of {program} for bash, made of what its --help tells.
-_{program}() {{
-    local word=${{COMP_WORDS[COMP_CWORD]}} before=${{COMP_WORDS[COMP_CWORD - 1]}} words=
-    case $before in
-{cases}    esac
-    if [[ -z $words && $word == -* ]]; then
-        words="{options}"
-    fi
-    if [[ -n $words ]]; then
-        mapfile -t COMPREPLY < <(compgen -W "$words" -- "$word")
-    else
-        mapfile -t COMPREPLY < <(compgen -f -- "$word")
-    fi
-}}
-complete -o filenames -F _{program} {program}
-"""
-
-
-def completions(program: str, told: str) -> str:
-    """Completions for the options that a text of help tells: behind one whose value is `one of`
-    some words, these; behind one that takes a file, and elsewhere, files; behind any other
-    nothing."""
-    options = re.findall(r"^(--[a-z-]+)(?: (\S+))?  +(.*)$", told, re.MULTILINE)
-    cases = ""
-    for option, value, does in options:
-        words = re.match(r"one of ((?:\w+, )*\w+)", does)
-        if words:
-            cases += f"        {option}) words=\"{words[1].replace(',', '')}\" ;;\n"
-        elif value and value != "OUT":
-            cases += f"        {option}) return ;;\n"
-    names = " ".join(option for option, *_ in options)
-    return COMPLETION.format(program=program, cases=cases, options=names)

@@ -82,6 +82,7 @@ QUICK = (
     Need("python3-protobuf", lambda: python() is not None),
     Need("gcc", lambda: has_tools("gcc", "cc")),
     Need("libc6-dev", lambda: has_include("stdio.h")),
+    Need("git", lambda: has_tools("git")),
 )
 """What the quick test wants besides rt."""
 
