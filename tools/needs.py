@@ -100,6 +100,9 @@ ALL = (
     Need("librust-prost-types-dev", lambda: any(CRATES.glob("prost-types-*"))),
     Need("groff-base", lambda: has_tools("groff")),
     Need("dpkg", lambda: has_tools("dpkg", "dpkg-deb")),
+    Need("curl", lambda: has_tools("curl")),
+    Need("zsh", lambda: has_tools("zsh")),
+    Need("fish", lambda: has_tools("fish")),
 )
 """All that the gate wants besides rt."""
 

@@ -1,6 +1,7 @@
 """Trials of the packages, as a user meets them: the archive and the wheel unpacked in folders, and
-the packages for Debian installed. Each is then used: the programs, the library by pkg-config and as an archive,
-the Python module, the example of the Rust crate, the manual pages, the completions of bash.
+the packages for Debian installed. Each is then used: the programs, the library by pkg-config and as
+an archive, the Python module, the example of the Rust crate, the manual pages, the completions, and
+sources that are in git.
 
 As root they run where what is mounted nobody else sees: the repository and the toolchain are hidden
 there, and what dpkg installs is gone at the end. Where that can't be, the archive is tried without
@@ -20,6 +21,7 @@ import zipfile
 from pathlib import Path
 from typing import NamedTuple, Optional
 
+import source_trials
 from python_wheel import digest
 from trials import Trials, run
 
@@ -42,14 +44,29 @@ pool.add_set(open("set.pb", "rb").read())
 print(list(pool.counts()), protolink.version(), protolink._names.finding is not None)
 """
 
-COMPLETE = """\
+PAGES = (
+    *("man1/check_descriptors.1", "man1/protolink-check.1", "man1/protoc-gen-protolink.1"),
+    *("man1/protolink.1", "man3/libprotolink.3"),
+)
+"""The manual pages, in the folder of all."""
+
+IN_BASH = """\
 . "$1"
-shift
-COMP_WORDS=(check_descriptors "$@")
+function=$2
+shift 2
+COMP_WORDS=(program "$@")
 COMP_CWORD=$#
-_check_descriptors
+$function
 echo "${COMPREPLY[@]}"
 """
+IN_ZSH = """\
+_arguments() { for word in $*; do [[ $word = *$found* ]] && print -r -- $word; done; return 0 }
+found=$2
+source $1
+"""
+"""The rules of an option, by the completions of zsh."""
+
+IN_FISH = 'source $argv[1]; complete -C "$argv[2]" | string replace -r "\\t.*" ""'
 
 MOUNTS = """\
 mount -t tmpfs none "$1"
@@ -248,7 +265,7 @@ def try_pages(trial: Trial) -> None:
     what = f"{trial.place.name}: the manual pages"
     if not trial.trials.has(what, "groff", "gunzip"):
         return
-    for name in ("man1/check_descriptors.1", "man1/protolink.1", "man3/libprotolink.3"):
+    for name in PAGES:
         packed = str(trial.place.prefix / f"share/man/{name}.gz")
         words = ["sh", "-c", 'gunzip < "$1" | groff -man -Tutf8 -ww -P-cbou', "sh", packed]
         said = trial.run(words).stdout
@@ -257,24 +274,43 @@ def try_pages(trial: Trial) -> None:
 
 
 def try_completions(trial: Trial) -> None:
-    """The completions of bash."""
-    what = f"{trial.place.name}: the completions"
-    if not trial.trials.has(what, "bash"):
-        return
-    file = str(trial.place.prefix / "share/bash-completion/completions/check_descriptors")
-    words = ["bash", "-ec", COMPLETE, "bash", file]
+    """The completions of bash, zsh and fish."""
+    share = trial.place.prefix / "share"
+    for program, function in (
+        ("check_descriptors", "_check_descriptors"),
+        ("protolink-check", "_protolink_check"),
+    ):
+        what = f"{trial.place.name}: the completions of {program}"
+        if trial.trials.has(f"{what} in bash", "bash"):
+            words = ["bash", "-ec", IN_BASH, "bash", f"{share}/bash-completion/completions/{program}"]
+            try_bash(trial, program, [*words, function])
+        if trial.trials.has(f"{what} in zsh", "zsh"):
+            (file,) = share.glob(f"zsh/*/_{program}")
+            words = ["zsh", "-fec", IN_ZSH, "zsh", str(file), "--level="]
+            trial.tells(f"{program} in zsh", words, ":LEVEL:(wire json source)\n")
+        if trial.trials.has(f"{what} in fish", "fish"):
+            words = ["fish", "--no-config", "-c", IN_FISH]
+            words += [f"{share}/fish/vendor_completions.d/{program}.fish", f"{program} --format git"]
+            trial.tells(f"{program} in fish", words, "github\ngitlab\n")
+
+
+def try_bash(trial: Trial, program: str, words: list[str]) -> None:
+    """The completions of a program in bash."""
     for begun, wanted in (
         (["--li"], "--list --linked\n"),
         (["--format", "g"], "github gitlab\n"),
+        (["--compatibility", "f"], "forward full\n"),
         (["--max-faults", ""], "\n"),
         (["--list", "se"], "set.pb\n"),
+        (["--against", "se"], "set.pb\n"),
     ):
-        trial.tells(f"the completions of {' '.join(begun)}", [*words, *begun], wanted)
+        trial.tells(f"{program} in bash: {' '.join(begun)}", [*words, *begun], wanted)
 
 
 def try_place(trial: Trial) -> None:
     """All of a package."""
     try_programs(trial)
+    source_trials.try_sources(trial)
     try_c(trial)
     try_python(trial)
     try_rust(trial)
@@ -310,7 +346,8 @@ def try_debian(trials: Trials, user: User, packages: list[Path]) -> None:
     trial = Trial(trials, user, place)
     trial.tells("dpkg -i", ["dpkg", "-i", *(package.name for package in packages)], "")
     try_place(trial)
-    trial.tells("man finds a page", ["man", "-w", "check_descriptors"], "check_descriptors.1.gz\n")
+    for name in ("check_descriptors", "protolink-check", "protoc-gen-protolink"):
+        trial.tells(f"man finds {name}", ["man", "-w", name], f"{name}.1.gz\n")
     trial.tells("dpkg --purge", ["dpkg", "--purge", "python3-protolink", "protolink"], "")
     left = trial.run(["sh", "-c", "ls -d /usr/bin/protolink /usr/lib/protolink 2>/dev/null"])
     trials.tell("Debian: nothing is left", left.stdout)
@@ -329,6 +366,7 @@ def try_all(trials: Trials, dist: Path) -> None:
         place = unpacked(archives[0], room)
         with User(room) as user:
             try_place(Trial(trials, user, place))
+            source_trials.try_gates(Trial(trials, user, place), archives[0])
             try_wheel(trials, user, dist)
             packages = [*sorted(dist.glob("protolink_*.deb")), *sorted(dist.glob("python3-*.deb"))]
             if len(packages) == 2:
