@@ -276,6 +276,7 @@ def try_pages(trial: Trial) -> None:
 def try_completions(trial: Trial) -> None:
     """The completions of bash, zsh and fish."""
     share = trial.place.prefix / "share"
+    folder = "vendor-completions" if trial.place.name == "Debian" else "site-functions"
     for program, function in (
         ("check_descriptors", "_check_descriptors"),
         ("protolink-check", "_protolink_check"),
@@ -285,8 +286,8 @@ def try_completions(trial: Trial) -> None:
             words = ["bash", "-ec", IN_BASH, "bash", f"{share}/bash-completion/completions/{program}"]
             try_bash(trial, program, [*words, function])
         if trial.trials.has(f"{what} in zsh", "zsh"):
-            (file,) = share.glob(f"zsh/*/_{program}")
-            words = ["zsh", "-fec", IN_ZSH, "zsh", str(file), "--level="]
+            file = f"{share}/zsh/{folder}/_{program}"
+            words = ["zsh", "-fec", IN_ZSH, "zsh", file, "--level="]
             trial.tells(f"{program} in zsh", words, ":LEVEL:(wire json source)\n")
         if trial.trials.has(f"{what} in fish", "fish"):
             words = ["fish", "--no-config", "-c", IN_FISH]
