@@ -5,9 +5,10 @@ Debian has the descriptors: each is in the source that was generated of it, as b
     python3 googleapis.py SET.pb                fetches the package by apt-get
     python3 googleapis.py SET.pb PACKAGE.deb    takes it from there
 
-The set has all files that they import: protobuf's own come from protoc. It is said how many files,
-services, methods and methods that stream there are. Needed are dpkg-deb, protoc with protobuf's own
-files, and protobuf's Python package. Exit status: 0, or 2 where no set could be made.
+The set has all files that they import, each file after these: protobuf's own come from protoc. It is
+said how many files, services, methods and methods that stream there are. Needed are dpkg-deb, protoc
+with protobuf's own files, and protobuf's Python package. Exit status: 0, or 2 where no set could be
+made.
 """
 
 from __future__ import annotations
@@ -17,6 +18,7 @@ import re
 import sys
 import tempfile
 from collections.abc import Iterator
+from graphlib import TopologicalSorter
 from pathlib import Path
 
 from google.protobuf.descriptor_pb2 import FileDescriptorProto, FileDescriptorSet
@@ -54,7 +56,8 @@ def made(package: list[str], room: Path) -> FileDescriptorSet:
     ]:
         for name in lacking:
             del files[name]
-    return FileDescriptorSet(file=files.values())
+    imports = {name: sorted(file.dependency) for name, file in files.items()}
+    return FileDescriptorSet(file=map(files.__getitem__, TopologicalSorter(imports).static_order()))
 
 
 def counts(files: FileDescriptorSet) -> str:

@@ -5,6 +5,7 @@ bytes, and prints the tables of docs/SPEED.md.
     python3 library_speed.py                       over dist/lib/libprotolink.a
     python3 library_speed.py ARCHIVE
     python3 library_speed.py --peers [--upb FOLDER]
+    python3 library_speed.py --set "googleapis' files" googleapis.pb
 
 Counted are instructions, by valgrind's callgrind, each of one call: `protolink_pool_add_set`, which
 links a set; `protolink_pool_linked`, which writes the linked set; `protolink_pool_changes`, which
@@ -13,6 +14,9 @@ compares the pool with itself; and `protolink_pool_clear`, which frees it.
 With --peers the table is that of the peers: protobuf's own pool in C++, which parses the same set and
 takes each of its files by `DescriptorPool::BuildFile`; and, with --upb, upb, which does so by
 `upb_DefPool_AddFile`. FOLDER is the unpacked source package of Debian (`apt-get source protobuf`).
+
+Each --set adds a row, by its name and its file (googleapis.py makes one). The peers want each file of
+a set after what it imports.
 
 Needed are valgrind, g++, and protoc with protobuf's own files; with --peers gcc, pkg-config, and on
 Debian libprotobuf-dev. Exit status: 0, or 2 where nothing could be counted.
@@ -25,7 +29,8 @@ import re
 import subprocess
 import sys
 import tempfile
-from collections.abc import Iterator
+from collections.abc import Iterator, Sequence
+from itertools import chain
 from pathlib import Path
 from typing import Optional
 
@@ -225,7 +230,11 @@ def own_files(room: Path, *flags: str) -> bytes:
     return to.read_bytes()
 
 
-def rows(room: Path) -> Iterator[tuple[str, bytes]]:
+Row = tuple[str, bytes]
+"""What a row is called, and its set."""
+
+
+def rows(room: Path) -> Iterator[Row]:
     yield "protobuf's twelve files", own_files(room)
     yield "the same, with their places in the source", own_files(room, "--include_source_info")
     yield (
@@ -296,13 +305,16 @@ def own_head(calls: tuple[str, ...] = CALLS) -> str:
 
 
 def own_rows(
-    archive: Path, calls: tuple[str, ...] = CALLS, sets: Optional[tuple[str, ...]] = None
+    archive: Path,
+    calls: tuple[str, ...] = CALLS,
+    sets: Optional[tuple[str, ...]] = None,
+    others: Sequence[Row] = (),
 ) -> Iterator[str]:
-    """What each of some calls takes over some sets, or over all."""
+    """What each of some calls takes over some sets, or over all, and then over others."""
     with tempfile.TemporaryDirectory() as name:
         room = Path(name)
         program, set_ = made(archive, room), room / "set.pb"
-        for row, data in rows(room):
+        for row, data in chain(rows(room), others):
             if sets is not None and row not in sets:
                 continue
             set_.write_bytes(data)
@@ -311,15 +323,15 @@ def own_rows(
             yield f"| {row} | {len(data) / 1000:,.0f} | {cells} |"
 
 
-def tell(archive: Path) -> None:
-    """Prints the table of the library."""
+def tell(archive: Path, others: Sequence[Row]) -> None:
+    """Prints the table of the library, with rows of other sets."""
     print(own_head())
-    for row in own_rows(archive):
+    for row in own_rows(archive, others=others):
         print(row, flush=True)
 
 
-def tell_peers(upb: Optional[Path]) -> None:
-    """Prints the table of the peers."""
+def tell_peers(upb: Optional[Path], others: Sequence[Row]) -> None:
+    """Prints the table of the peers, with rows of other sets."""
     with tempfile.TemporaryDirectory() as name:
         room = Path(name)
         set_ = room / "set.pb"
@@ -327,7 +339,7 @@ def tell_peers(upb: Optional[Path]) -> None:
         if upb is not None:
             peers["add_to_upb"] = made_of_upb(upb, room)
         print(head("set", "protobuf's pool in C++", *(["upb"] if upb else [])))
-        for row, data in rows(room):
+        for row, data in chain(rows(room), others):
             set_.write_bytes(data)
             counts = (instructions(program, call, set_) for call, program in peers.items())
             print(f"| {row} | {' | '.join(f'{count:,.2f}' for count in counts)} |", flush=True)
@@ -340,12 +352,15 @@ def main() -> int:
     parser.add_argument("archive", nargs="?", type=Path, default=ARCHIVE, help="the built library")
     parser.add_argument("--peers", action="store_true", help="count the peers")
     parser.add_argument("--upb", type=Path, metavar="FOLDER", help="protobuf's sources, with upb")
+    parser.add_argument("--set", nargs=2, action="append", default=[], metavar=("NAME", "SET.pb"),
+                        dest="sets", help="one more row")
     options = parser.parse_args()
     try:
+        others = [(name, Path(path).read_bytes()) for name, path in options.sets]
         if options.peers or options.upb:
-            tell_peers(options.upb)
+            tell_peers(options.upb, others)
         else:
-            tell(options.archive)
+            tell(options.archive, others)
     except (ToolError, OSError) as fault:
         print(f"library_speed.py: {fault}", file=sys.stderr)
         return 2
