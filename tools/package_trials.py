@@ -283,15 +283,15 @@ def try_completions(trial: Trial) -> None:
     ):
         what = f"{trial.place.name}: the completions of {program}"
         if trial.trials.has(f"{what} in bash", "bash"):
-            words = ["bash", "-ec", IN_BASH, "bash", f"{share}/bash-completion/completions/{program}"]
-            try_bash(trial, program, [*words, function])
+            file = f"{share}/bash-completion/completions/{program}"
+            try_bash(trial, program, ["bash", "-ec", IN_BASH, "bash", file, function])
         if trial.trials.has(f"{what} in zsh", "zsh"):
             file = f"{share}/zsh/{folder}/_{program}"
             words = ["zsh", "-fec", IN_ZSH, "zsh", file, "--level="]
             trial.tells(f"{program} in zsh", words, ":LEVEL:(wire json source)\n")
         if trial.trials.has(f"{what} in fish", "fish"):
-            words = ["fish", "--no-config", "-c", IN_FISH]
-            words += [f"{share}/fish/vendor_completions.d/{program}.fish", f"{program} --format git"]
+            file = f"{share}/fish/vendor_completions.d/{program}.fish"
+            words = ["fish", "--no-config", "-c", IN_FISH, file, f"{program} --format git"]
             trial.tells(f"{program} in fish", words, "github\ngitlab\n")
 
 

@@ -42,7 +42,8 @@ git -C origin commit --quiet --message one
 git clone --quiet origin clone
 git -C clone checkout --quiet -b branch
 """
-NOBODY = {f"GIT_{who}_{what}": "a@b" for who in ("AUTHOR", "COMMITTER") for what in ("NAME", "EMAIL")}
+PEOPLE = ("AUTHOR_NAME", "AUTHOR_EMAIL", "COMMITTER_NAME", "COMMITTER_EMAIL")
+NOBODY = {f"GIT_{it}": "a@b" for it in PEOPLE}
 SETTINGS = {**NOBODY, "GIT_CONFIG_GLOBAL": os.devnull, "GIT_CONFIG_NOSYSTEM": "1"}
 
 
@@ -128,4 +129,5 @@ def try_sources(trial: Trial) -> None:
     if trial.trials.has(what, "protoc"):
         (trial.user.room / "money.proto").write_text(MONEY)
         words = [trial.place.python, str(trial.place.prefix / "bin/protolink-check"), "money.proto"]
-        trial.tells("sources", words, "accepted: 1 file, 1 message, 0 enums, 0 services, 0 extensions\n")
+        counts = "1 file, 1 message, 0 enums, 0 services, 0 extensions"
+        trial.tells("sources", words, f"accepted: {counts}\n")
