@@ -78,7 +78,32 @@ impl FrontBuffer {
         Ok(())
     }
 
+    /// Puts two bytes in front of the others.
+    #[inline]
+    pub fn put_two(&mut self, first: u8, second: u8) -> Result<(), AllocError>
+        ensures { OnOk result (self.new ≡ in_front (first ∷ second ∷ []) self.old) }
+    {
+        if self.start < 2 {
+            return self.put_two_beyond(first, second);
+        }
+        self.start -= 2;
+        self.held[self.start + 1] = second;
+        self.held[self.start] = first;
+        Ok(())
+    }
+
+    /// Counts two bytes for which there is no room, or puts them in front of the others.
+    // A call of its own, so that no place is made for them where there is room.
+    #[cold]
+    #[inline(never)]
+    fn put_two_beyond(&mut self, first: u8, second: u8) -> Result<(), AllocError>
+        ensures { OnOk result (self.new ≡ in_front (first ∷ second ∷ []) self.old) }
+    {
+        self.put_beyond(&[first, second])
+    }
+
     /// Puts bytes in front of the others.
+    #[inline]
     pub fn put_bytes(&mut self, bytes: &[u8]) -> Result<(), AllocError>
         ensures { OnOk result (self.new ≡ in_front bytes.now self.old) }
     {
@@ -91,22 +116,31 @@ impl FrontBuffer {
         Ok(())
     }
 
-    /// Counts bytes for which there is no room, or puts them in front of the others, behind as much
-    /// room as was held.
+    /// Counts bytes for which there is no room, or puts them in front of the others.
     #[cold]
+    #[inline(never)]
     fn put_beyond(&mut self, bytes: &[u8]) -> Result<(), AllocError>
         ensures { OnOk result (self.new ≡ in_front bytes.now self.old) }
     {
         match self.counted {
             Some(len) => {
                 self.counted = Some(len.checked_add(bytes.len()).ok_or(AllocError)?);
+                Ok(())
             }
-            None => {
-                let room = self.held.len().max(LEAST_ROOM);
-                self.held = behind_room(self.alloc, room, bytes, &self.held[self.start..])?;
-                self.start = room;
-            }
+            None => self.put_behind_room(bytes),
         }
+    }
+
+    /// Puts bytes in front of the others, behind as much room as was held.
+    // A call of its own, so that what is only counted makes no place for it.
+    #[inline(never)]
+    fn put_behind_room(&mut self, bytes: &[u8]) -> Result<(), AllocError>
+        ensures { OnOk result (self.new ≡ Kept (bytes.now ++ bytes_of self.old)) }
+    {
+        let room = self.held.len().max(LEAST_ROOM);
+        self.held = behind_room(self.alloc, room, bytes, &self.held[self.start..])?;
+        self.start = room;
+        self.counted = None;
         Ok(())
     }
 

@@ -33,6 +33,7 @@ fn bits(number: i32) -> u64
 }
 
 /// Puts a number or an enum.
+#[inline]
 pub fn put_int32(out: &mut FrontBuffer, field: u32, part: Option<i32>) -> Result<(), AllocError>
     requires { field < 2 ^ 29 }
     ensures { Puts result out.old out.new (int32_listed field part) }
@@ -44,6 +45,7 @@ pub fn put_int32(out: &mut FrontBuffer, field: u32, part: Option<i32>) -> Result
 }
 
 /// Puts a truth value.
+#[inline]
 pub fn put_bool(out: &mut FrontBuffer, field: u32, part: Option<bool>) -> Result<(), AllocError>
     requires { field < 2 ^ 29 }
     ensures { Puts result out.old out.new (bool_listed field part) }

@@ -29,14 +29,27 @@ fn put_long_varint(out: &mut FrontBuffer, number: u64) -> Result<(), AllocError>
     out.put_byte((number % 128) as u8 + 128)
 }
 
+/// Puts a tag, and a number behind it, in front of the bytes.
+#[inline(always)]
+fn put_head(out: &mut FrontBuffer, tag: u64, number: u64) -> Result<(), AllocError>
+    ensures { OnOk result (out.new ≡ in_front (varint_of tag)
+        (in_front (varint_of number) out.old)) }
+{
+    if tag < 128 && number < 128 {
+        return out.put_two(tag as u8, number as u8);
+    }
+    put_varint(out, number)?;
+    put_varint(out, tag)
+}
+
 /// Puts a field whose value is a number in front of the bytes.
 #[tactic(auto, using(crate::proofs::Appending::number_put))]
+#[inline]
 pub fn put_number_field(out: &mut FrontBuffer, field: u32, number: u64) -> Result<(), AllocError>
     requires { field < 2 ^ 29 }
     ensures { Puts result out.old out.new (number_field field number ∷ []) }
 {
-    put_varint(out, number)?;
-    put_varint(out, 8 * u64::from(field))
+    put_head(out, 8 * u64::from(field), number)
 }
 
 /// Puts a field whose value is a text, bytes or a message in front of the bytes.
@@ -46,8 +59,7 @@ pub fn put_bytes_field(out: &mut FrontBuffer, field: u32, bytes: &[u8]) -> Resul
     ensures { Puts result out.old out.new (bytes_field field bytes.now ∷ []) }
 {
     out.put_bytes(bytes)?;
-    put_varint(out, bytes.len() as u64)?;
-    put_varint(out, 8 * u64::from(field) + 2)
+    put_head(out, 8 * u64::from(field) + 2, bytes.len() as u64)
 }
 
 /// Puts the tag and the length of a value in front of it. The value is what stands before the last
@@ -59,6 +71,5 @@ pub fn put_length(out: &mut FrontBuffer, field: u32, behind: usize) -> Result<()
         (in_front (varint_of (size out.old - behind)) out.old)) }
 {
     let len = out.len() - behind;
-    put_varint(out, len as u64)?;
-    put_varint(out, 8 * u64::from(field) + 2)
+    put_head(out, 8 * u64::from(field) + 2, len as u64)
 }
