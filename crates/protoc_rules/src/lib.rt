@@ -2,6 +2,7 @@
 //! fault is told: its text, its places and what to do.
 #![tactic(auto)]
 
+mod cycles;
 mod enums;
 mod extensions;
 mod faults;
