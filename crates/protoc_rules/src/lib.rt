@@ -9,6 +9,7 @@ mod faults;
 mod fields;
 mod firsts;
 mod imports;
+mod known;
 mod labels;
 pub mod laws;
 mod linked;
