@@ -22,7 +22,7 @@ from typing import NamedTuple
 
 CRATES = Path(__file__).resolve().parent.parent / "crates"
 
-FEWEST = 239
+FEWEST = 241
 """How many edits at least the gate wants to be refused. It is raised with the edits, and not
 lowered."""
 
@@ -36,7 +36,7 @@ FEWEST_OF = {
     "message_values": 2,
     "pool_changes": 15,
     "pool_laws": 2,
-    "protoc_rules": 19,
+    "protoc_rules": 21,
 }
 """How many edits at least these crates have."""
 

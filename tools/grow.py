@@ -103,6 +103,15 @@ def option_fields(n: int, fields: int) -> list[FileDescriptorProto]:
     return [a_file(message_type=[message("M", MESSAGE, n, ".T"), held])]
 
 
+def option_extensions(n: int) -> list[FileDescriptorProto]:
+    held = with_options(DescriptorProto(name="T"), n)
+    held.extension_range.add(start=1, end=n + 1)
+    result = a_file(message_type=[held])
+    for number in range(1, n + 1):
+        result.extension.add(name=f"x{number}", number=number, label=1, type=INT32, extendee=".T")
+    return [result]
+
+
 def renamed_fields(n: int) -> list[list[FileDescriptorProto]]:
     return [
         [a_file(message_type=[message("M", MESSAGE, n, f".{name}"), message(name, INT32, n)])]
@@ -180,6 +189,10 @@ SHAPES = {
     "strict_map_options": Shape(
         STRICT, 600, lambda n: [option_fields(n, 0)],
         "fields that hold a message, and the options of that message",
+    ),
+    "strict_extension_options": Shape(
+        STRICT, 600, lambda n: [option_extensions(n)],
+        "extensions of a message, and the options of that message",
     ),
     "strict_import_chain": Shape(
         STRICT, 400, lambda n: [import_chain(n)], "files of which each imports the one before"

@@ -97,6 +97,7 @@ breaks_rule("TypeNameOfScalar", [4, 0, 2, 0, 6], "M.f", SCALAR, "leave one of th
 breaks_rule(
     "TypeNameOfScalar", [7, 0, 6], "x", SCALAR, "leave one of the two out", number=2, as_json=True
 )
+breaks_rule("TypeNameOfScalar", [4, 0, 2, 0, 6], "M.f", SCALAR, "leave one of the two out", number=4)
 breaks_rule(
     "NotAMessageType",
     [4, 0, 2, 0, 6],

@@ -1,14 +1,14 @@
 -- Chains of imports, and what is known of them round by round.
-use Rattle.std.proofs.Common.{◌≡◌, ◌≢◌, ℕ, zero, suc, ◌+◌, ◌<◌, ◌≤◌, ◌-◌, List, [], ◌∷◌, Bool, true, false, ◌||◌, ◌&&◌, nat_eq, nat_lt, length, map, get_or, ◌⊎◌, inl, inr, refl, ap, sym, subst, ◌∙◌, arith}
-use Rattle.std.proofs.Math.ListN.{get_or-map}
-use Rattle.std.proofs.lemmas.Bool.{cases_lt, cases_Bool, or_cases, lt-ltb, le-ltb, ltb-true}
+use Rattle.std.proofs.Common.{◌≡◌, ℕ, zero, suc, ◌<◌, ◌≤◌, List, [], ◌∷◌, Bool, true, false, ◌||◌, ◌&&◌, nat_eq, length, map, get_or, ◌⊎◌, inl, inr, refl, ap, sym, subst, ◌∙◌, arith}
+use Rattle.std.proofs.Math.ListN.{get_or-map, set}
+use Rattle.std.proofs.lemmas.Bool.{cases_eq, cases_lt, cases_Bool, or_cases, lt-ltb, le-ltb, ltb-true}
 use Rattle.std.proofs.lemmas.Bool.Decides.{Decides-eqb}
-use Rattle.std.proofs.lemmas.List.{length-map, get_or-map as map_get_or}
+use Rattle.std.proofs.lemmas.List.{length-map, length-set, get_or-set_other, get_or-set_same, get_or-map as map_get_or}
 use Rattle.std.proofs.lemmas.Map.Steps.{length-le_from_distinct_below}
 use Rattle.std.specs.Cmp.Lexicographic.{pointwise}
 use Rattle.std.specs.List.{AllByRecursion, Contains, IsDistinct, list_any}
 use mathlib.Core.Bool.{beq}
-use Rattle.protoc_rules.specs.Imports.{imports_of, has_chain, comes_back, IsChain, ChainsComeBack, is_marked}
+use Rattle.protoc_rules.specs.Imports.{imports_of, has_chain, comes_back, IsChain, ChainsComeBack, is_marked, HoldsBack}
 
 -- ---- what a list has
 
@@ -136,6 +136,45 @@ chains-come-back fs n = (there, back)
       | inr twice ↦ any-length fs n chain.0 chain.1 twice (length fs)
     ]
 
+-- ---- marks
+
+-- a file from which a chain comes back imports one from which one does
+back-import : (fs : List (List ℕ)) (n : ℕ) → comes_back fs n ≡ true → list_any (comes_back fs) (imports_of fs n) ≡ true
+back-import fs n back =
+    let chain = (chains-come-back fs n).0 back in
+    elim (distinct-or-twice (n ∷ chain.0)) [
+      | inl distinct ↦ absurd (chain.2 distinct)
+      | inr twice ↦ any-length fs n chain.0 chain.1 twice (suc (length fs))
+    ]
+
+-- so it imports one that is marked, where each such is
+back-marked : (fs : List (List ℕ)) (marks : List Bool) (n : ℕ) → HoldsBack fs marks → comes_back fs n ≡ true
+    → list_any (is_marked marks) (imports_of fs n) ≡ true
+back-marked fs marks n holds back =
+    let found = any-found (comes_back fs) (imports_of fs n) (back-import fs n back) in
+    found-any (is_marked marks) (imports_of fs n) found.0 found.1 (holds found.0 found.2)
+
+-- the mark is taken from a file of which no import is marked
+pub back-unmarked : (fs : List (List ℕ)) (marks : List Bool) (i : ℕ) → list_any (is_marked marks) (imports_of fs i) ≡ false
+    → HoldsBack fs marks → HoldsBack fs (set marks i false)
+back-unmarked fs marks i none holds n back = elim (cases_eq n i) [
+  | inl same ↦ absurd (let no : true ≡ false = sym (back-marked fs marks n holds back) ∙ ap (λ m. list_any (is_marked marks) (imports_of fs m)) same ∙ none in cc)
+  | inr apart ↦ get_or-set_other marks i n false false apart ∙ holds n back
+]
+
+-- and no other is marked then
+pub fewer-unmarked : (marks : List Bool) (i n : ℕ) → is_marked (set marks i false) n ≡ true → is_marked marks n ≡ true
+fewer-unmarked marks i n marked = elim (cases_eq n i) [
+  | inl same ↦ absurd (let no : true ≡ false = sym marked ∙ ap (λ m. is_marked (set marks i false) m) same ∙ gone in cc)
+  | inr apart ↦ sym (get_or-set_other marks i n false false apart) ∙ marked
+]
+  where
+    gone : is_marked (set marks i false) i ≡ false
+    gone = elim (cases_lt i (length marks)) [
+      | inl h ↦ get_or-set_same marks i false false h
+      | inr past ↦ outside (set marks i false) i false (subst (λ m. m ≤ i) (sym (length-set marks i false)) past)
+    ]
+
 -- ---- rounds
 
 -- each file has a chain of no import
@@ -145,18 +184,47 @@ first-round fs n = elim (cases_lt n (length fs)) [
   | inr past ↦ outside (map (λ _. true) fs) n false (subst (λ m. m ≤ n) (sym (length-map fs (λ _. true))) past) ∙ sym (le-ltb n (length fs) past)
 ]
 
--- what is known after a round
-pub next-round : (fs : List (List ℕ)) (k : ℕ) (marks : List Bool) → ((n : ℕ) → is_marked marks n ≡ has_chain fs k n)
-    → (n : ℕ) → is_marked (map (list_any (is_marked marks)) fs) n ≡ has_chain fs (suc k) n
-next-round fs k marks is n =
-    get_or-map (list_any (is_marked marks)) fs n [] ∙ ap (λ (test : ℕ → Bool). list_any test (imports_of fs n)) (λ i m. is m i)
+-- a chain without all of its imports
+shortest : (fs : List (List ℕ)) (k n : ℕ) → has_chain fs k n ≡ true → has_chain fs 0 n ≡ true
+shortest fs zero n chain = chain
+shortest fs (suc k) n chain = shortest fs k n (shorter fs k n chain)
 
--- after a round that changes nothing no round does
-stays : (fs : List (List ℕ)) (k : ℕ) → ((n : ℕ) → has_chain fs (suc k) n ≡ has_chain fs k n) → (j n : ℕ) → has_chain fs (k + j) n ≡ has_chain fs k n
-stays fs k same zero n = let here : k + 0 ≡ k = omega arith in ap (λ r. has_chain fs r n) here
-stays fs k same (suc j) n =
-    let next : k + suc j ≡ suc (k + j) = omega arith in
-    ap (λ r. has_chain fs r n) next ∙ ap (λ (test : ℕ → Bool). list_any test (imports_of fs n)) (λ i m. stays fs k same j m i) ∙ same n
+-- all files are marked at first
+pub back-at-first : (fs : List (List ℕ)) → HoldsBack fs (map (λ _. true) fs)
+back-at-first fs n back = first-round fs n ∙ shortest fs (length fs) n back
+
+module _ (fs : List (List ℕ)) (marks next : List Bool) (step : next ≡ map (list_any (is_marked marks)) fs) where
+  -- who is marked after a round imports one that was marked
+  marked-next : (n : ℕ) → is_marked next n ≡ list_any (is_marked marks) (imports_of fs n)
+  marked-next n = ap (λ known. is_marked known n) step ∙ get_or-map (list_any (is_marked marks)) fs n []
+
+  -- a round keeps the marks that are to stay
+  pub back-next : HoldsBack fs marks → HoldsBack fs next
+  back-next holds n back = marked-next n ∙ back-marked fs marks n holds back
+
+  -- the marked ones have chains that are longer by one
+  pub chains-next : (k : ℕ) → ((n : ℕ) → is_marked marks n ≡ true → has_chain fs k n ≡ true) → (n : ℕ) → is_marked next n ≡ true
+      → has_chain fs (suc k) n ≡ true
+  chains-next k chains n marked =
+      let found = any-found (is_marked marks) (imports_of fs n) (sym (marked-next n) ∙ marked) in
+      found-any (has_chain fs k) (imports_of fs n) found.0 found.1 (chains found.0 found.2)
+
+  -- after a round that changes nothing they have chains of any length
+  any-chain : next ≡ marks → ((n : ℕ) → is_marked marks n ≡ true → has_chain fs 0 n ≡ true) → (k n : ℕ) → is_marked marks n ≡ true
+      → has_chain fs k n ≡ true
+  any-chain same first zero n marked = first n marked
+  any-chain same first (suc k) n marked = chains-next k (any-chain same first k) n (ap (λ known. is_marked known n) same ∙ marked)
+
+-- a test is another where each holds with the other
+same-test : (a b : Bool) → (a ≡ true → b ≡ true) → (b ≡ true → a ≡ true) → a ≡ b
+same-test true b there back = sym (there refl)
+same-test false true there back = back refl
+same-test false false there back = refl
+
+-- the marks are right where the marked ones have chains of as many imports as there are files
+pub last-round : (fs : List (List ℕ)) (marks : List Bool) → HoldsBack fs marks → ((n : ℕ) → is_marked marks n ≡ true → has_chain fs (length fs) n ≡ true)
+    → (n : ℕ) → is_marked marks n ≡ comes_back fs n
+last-round fs marks holds chains n = same-test (is_marked marks n) (comes_back fs n) (chains n) (holds n)
 
 both-true : (x y : Bool) → (x && y) ≡ true → (x ≡ true) × (y ≡ true)
 both-true true y h = (refl, h)
@@ -177,9 +245,8 @@ same-values (x ∷ xs) (y ∷ ys) h =
     let both = both-true (beq x y) (pointwise beq xs ys) h in
     λ i. same-value x y both.0 i ∷ same-values xs ys both.1 i
 
--- a round that changes nothing is as good as the last one
-pub last-round : (fs : List (List ℕ)) (k : ℕ) (marks next : List Bool) → k < length fs → ((n : ℕ) → is_marked marks n ≡ has_chain fs k n)
+-- they are right after a round that changes nothing
+pub still-round : (fs : List (List ℕ)) (k : ℕ) (marks next : List Bool) → HoldsBack fs marks → ((n : ℕ) → is_marked marks n ≡ true → has_chain fs k n ≡ true)
     → next ≡ map (list_any (is_marked marks)) fs → next ≡ marks → (n : ℕ) → is_marked marks n ≡ comes_back fs n
-last-round fs k marks next below is step same n =
-    let more : k + (length fs - k) ≡ length fs = omega arith in
-    is n ∙ sym (stays fs k (λ m. sym (next-round fs k marks is m) ∙ ap (λ known. is_marked known m) (sym step ∙ same) ∙ is m) (length fs - k) n) ∙ ap (λ r. has_chain fs r n) more
+still-round fs k marks next holds chains step same =
+    last-round fs marks holds (any-chain fs marks next step same (λ n marked. shortest fs k n (chains n marked)) (length fs))

@@ -1,5 +1,5 @@
 -- The first position of each of some keys, with one key more.
-use Rattle.std.proofs.Common.{◌≡◌, ◌+◌, ◌<◌, ℕ, Bool, true, false, cond, Option, None, Some, List, [], ◌∷◌, ◌++◌, length, take, get_or, refl, ap, sym, ◌∙◌, arith}
+use Rattle.std.proofs.Common.{◌≡◌, ◌+◌, ◌<◌, ℕ, Bool, true, false, cond, Option, None, Some, List, [], ◌∷◌, ◌++◌, length, take, get_or, refl, ap, sym, subst, ◌∙◌, arith}
 use Rattle.std.proofs.lemmas.Iterator.Adapters.{position_from-zero}
 use Rattle.std.proofs.lemmas.List.{length-take-le, take_more}
 use Rattle.std.specs.List.{position}
@@ -43,7 +43,14 @@ module _ {K : Type 0} (eq : K → K → Bool) (same : (x y : K) → eq x y ≡ t
       go false is = has x ∙ or-none (position (eq x) keys)
 
 -- how many entries are taken so far, and the next one with them
-pub taken-more : {X : Type 0} (xs : List X) (i : ℕ) (x : X) → i < length xs → x ≡ get_or xs i x
+taken-more : {X : Type 0} (xs : List X) (i : ℕ) (x : X) → i < length xs → x ≡ get_or xs i x
     → (length (take i xs) ≡ i) × (take (i + 1) xs ≡ take i xs ++ x ∷ [])
 taken-more xs i x below is =
     (omega (arith, length-take-le i xs (omega (arith, below))), take_more xs i x below ∙ ap (λ y. take i xs ++ y ∷ []) (sym is))
+
+-- what a table has after the next of some keys, where it had the same of those before
+pub entered-next : {X : Type 0} (Before After : List X → Type 0) (xs : List X) (i : ℕ) (x key : X) → i < length xs → x ≡ get_or xs i x → key ≡ x
+    → ((ys : List X) → Before ys → length ys ≡ i → After (ys ++ key ∷ [])) → Before (take i xs) → After (take (i + 1) xs)
+entered-next Before After xs i x key below is same enters before =
+    let more = taken-more xs i x below is in
+    subst After (sym more.1) (subst (λ y. After (take i xs ++ y ∷ [])) same (enters (take i xs) before more.0))

@@ -3,3 +3,4 @@ pub mod Told
 pub mod FirstKeys
 pub mod Distinct
 pub mod Chains
+pub mod Marks

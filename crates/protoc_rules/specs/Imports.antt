@@ -2,6 +2,7 @@
 use Rattle.std.specs.Prelude.{◌≡◌, ◌↔◌, ℕ, zero, suc, nat_eq, nat_lt, Bool, true, false, ◌==◌}
 use Rattle.std.specs.Prelude.{List, [], ◌∷◌, ◌++◌, length, map, position, slice_index_or, take}
 use Rattle.std.specs.List.{Contains, IsDistinct, list_any}
+use Rattle.std.specs.declared.option.Option.{Option}
 use Rattle.plain_data.specs.Lists.{only_if}
 use Rattle.proto_types.specs.Readers.{text_of}
 use Rattle.proto_types.specs.declared.tag.file.TheConstants.{DEPENDENCY, NAME}
@@ -16,14 +17,14 @@ use Rattle.protoc_rules.specs.Packages.{package_faults}
 abbrev pub file_id : ℕ → Identity
 file_id n = record { file = n; path = []; full_name = []; name_index = 0 }
 
--- whether two indexes are one
-abbrev pub is_same : ℕ → ℕ → Bool
-is_same file other = file == other
+-- that the import with a position is of the file that is imported at an earlier one, if there is one
+abbrev pub import_with : Identity → ℕ → Option ℕ → List StrictFault
+import_with id n first = pair_faults kind.DuplicateImport id (entry DEPENDENCY n)
+    (entry_at DEPENDENCY first)
 
 -- that the import with a position is of a file that is imported before
 abbrev pub import_faults : Identity → List ℕ → ℕ → ℕ → List StrictFault
-import_faults id imports n f = pair_faults kind.DuplicateImport id (entry DEPENDENCY n)
-    (entry_at DEPENDENCY (position (is_same f) (take n imports)))
+import_faults id imports n f = import_with id n (position (nat_eq f) (take n imports))
 
 -- the files that each file imports, by their indexes
 abbrev pub imports : List FileDescriptorInner → List (List ℕ)
@@ -57,6 +58,10 @@ ChainsComeBack = (fs : List (List ℕ)) (n : ℕ) → (comes_back fs n ≡ true)
 -- whether a file is marked
 abbrev pub is_marked : List Bool → ℕ → Bool
 is_marked marks n = slice_index_or marks n false
+
+-- marks hold each file from which a chain of imports comes back
+abbrev pub HoldsBack : List (List ℕ) → List Bool → Type 0
+HoldsBack fs marks = (n : ℕ) → comes_back fs n ≡ true → is_marked marks n ≡ true
 
 -- what a file may not be: without a name, in a package that is none, with a chain of imports that
 -- comes back, nor with an import twice

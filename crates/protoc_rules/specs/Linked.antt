@@ -2,7 +2,7 @@
 use Rattle.std.specs.Prelude.{ℕ, Bool, false, not, List, slice_get}
 use Rattle.std.specs.Option.{option_and_then, option_map_or, option_or}
 use Rattle.std.specs.declared.option.Option.{Option}
-use Rattle.descriptor_decoding.specs.Flags.{says_message_set}
+use Rattle.descriptor_decoding.specs.Flags.{says_map_entry, says_message_set}
 use Rattle.proto_types.specs.declared.message.DescriptorProto.{DescriptorProto}
 use Rattle.proto_types.specs.declared.records.enumeration.EnumDescriptorProto.{EnumDescriptorProto}
 use Rattle.proto_types.specs.declared.records.field.FieldDescriptorProto.{FieldDescriptorProto}
@@ -78,8 +78,18 @@ abbrev pub is_closed : Linked → KindIndex → Bool
 is_closed l (index.Enum e) = is_closed_enum l e
 is_closed l _ = false
 
+-- whether the linked record of a message says that it is an entry of a map
+abbrev pub is_entry : Linked → MessageDescriptorInner → Bool
+is_entry l m = option_map_or says_map_entry (message_record l m.id) false
+
+-- whether it says that it is a message set
+abbrev pub is_set : Linked → MessageDescriptorInner → Bool
+is_set l m = option_map_or says_message_set (message_record l m.id) false
+
+-- whether the message with an index is an entry of a map
+abbrev pub is_map_entry : Linked → ℕ → Bool
+is_map_entry l n = option_map_or (is_entry l) (slice_get l.messages n) false
+
 -- whether the message with an index is a message set
 abbrev pub is_message_set : Linked → ℕ → Bool
-is_message_set l m = option_map_or
-    (λ found. option_map_or says_message_set (message_record l found.id) false)
-    (slice_get l.messages m) false
+is_message_set l n = option_map_or (is_set l) (slice_get l.messages n) false

@@ -11,7 +11,6 @@ use Rattle.proto_types.specs.Readers.{label_of, number_of, text_of}
 use Rattle.proto_types.specs.declared.message.DescriptorProto.{DescriptorProto, out-DescriptorProto}
 use Rattle.proto_types.specs.declared.records.field.FieldDescriptorProto.{FieldDescriptorProto}
 use Rattle.proto_types.specs.declared.tag.field.TheConstants as field
-use Rattle.descriptor_decoding.specs.Flags.{says_map_entry}
 use Rattle.pool_types.specs.declared.contents.definition.Identity.{Identity}
 use Rattle.pool_types.specs.declared.contents.enumeration.EnumDescriptorInner.{EnumDescriptorInner}
 use Rattle.pool_types.specs.declared.contents.field.FieldDescriptorInner.{FieldDescriptorInner}
@@ -22,7 +21,7 @@ use Rattle.protoc_rules.specs.declared.faults.StrictFault.{StrictFault}
 use Rattle.protoc_rules.specs.declared.faults.StrictKind.TheVariants as kind
 use Rattle.protoc_rules.specs.Faults.{at_part}
 use Rattle.protoc_rules.specs.Labels.{is_optional, is_repeated}
-use Rattle.protoc_rules.specs.Linked.{Linked, message_record}
+use Rattle.protoc_rules.specs.Linked.{Linked, is_map_entry, message_record}
 use Rattle.protoc_rules.specs.Sites.{Site}
 
 -- an ASCII letter in upper case, where that is wanted; any other byte as it is
@@ -114,16 +113,11 @@ abbrev pub made_faults : Linked → Site → Identity → MessageDescriptorInner
 made_faults l s around m r = if is_entry_for l s around m r then kind_faults l s.id m.fields
     else at_part kind.MapEntry s.id field.TYPE_NAME ∷ []
 
--- the same of a message that may be no entry
-abbrev pub entry_faults : Linked → Site → Identity → MessageDescriptorInner → DescriptorProto
-    → List StrictFault
-entry_faults l s around m r = if says_map_entry r then made_faults l s around m r else []
-
 -- what a field of a message kind may not be as a map field
 abbrev pub message_map_faults : Linked → Site → Identity → ℕ → List StrictFault
-message_map_faults l s around n = option_map_or
-    (λ m. option_map_or (entry_faults l s around m) (message_record l m.id) [])
-    (slice_get l.messages n) []
+message_map_faults l s around n = if is_map_entry l n then (option_map_or
+    (λ m. option_map_or (made_faults l s around m) (message_record l m.id) [])
+    (slice_get l.messages n) []) else []
 
 -- the message that a kind is of; a group is of none here
 abbrev pub message_of : KindIndex → Option ℕ

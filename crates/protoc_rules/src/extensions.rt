@@ -7,9 +7,9 @@ ghost use Rattle.protoc_rules.specs.Extensions as spec;
 ghost use Rattle.protoc_rules.specs.Fields.{site_of};
 ghost use Rattle.protoc_rules.specs.Linked.{linked};
 
-use crate::Linked;
 use crate::faults::{Found, StrictKind};
 use crate::fields::{Site, tell_site};
+use crate::known::Known;
 use crate::labels::{is_optional, is_required};
 use crate::maps::{MapSite, camel_case};
 use pool_types::{ExtensionDescriptorInner, Identity, KindIndex};
@@ -108,7 +108,7 @@ fn tell_extension_site(found: &mut Found, site: Site<'_>) -> Result<(), AllocErr
     )
 }
 
-impl Linked<'_> {
+impl Known<'_> {
     /// Appends what an extension of a message may not be: in proto3 of anything but options, nor a
     /// map field.
     fn tell_extended(
@@ -118,7 +118,7 @@ impl Linked<'_> {
         extended: &Identity,
     ) -> Result<(), AllocError>
         ensures { OnOk result (found.new ≡ found.old
-            ++ spec.extended_faults (linked self.entry) (site_of site.entry) extended.now) }
+            ++ spec.extended_faults (linked self.entry.items) (site_of site.entry) extended.now) }
     {
         let wrong = site.in_proto3 && !is_of_options(extended.full_name());
         found.tell_if(
@@ -138,9 +138,9 @@ impl Linked<'_> {
         extendee: u32,
     ) -> Result<(), AllocError>
         ensures { OnOk result (found.new ≡ found.old
-            ++ spec.extendee_faults (linked self.entry) (site_of site.entry) extendee) }
+            ++ spec.extendee_faults (linked self.entry.items) (site_of site.entry) extendee) }
     {
-        match self.message_at(extendee) {
+        match self.items.message_at(extendee) {
             Some(message) => self.tell_extended(found, site, &message.id),
             None => Ok(()),
         }
@@ -153,17 +153,17 @@ impl Linked<'_> {
         extension: &ExtensionDescriptorInner,
     ) -> Result<(), AllocError>
         ensures { OnOk result (found.new
-            ≡ found.old ++ spec.extension_faults (linked self.entry) extension.now) }
+            ≡ found.old ++ spec.extension_faults (linked self.entry.items) extension.now) }
     {
-        let Some(record) = self.field_record(&extension.id) else {
+        let Some(record) = self.items.field_record(&extension.id) else {
             return Ok(());
         };
         let site = Site {
             id: &extension.id,
             record,
             kind: extension.kind,
-            in_proto3: self.in_proto3(extension.id.file),
-            is_closed: self.is_closed(extension.kind),
+            in_proto3: self.items.in_proto3(extension.id.file),
+            is_closed: self.items.is_closed(extension.kind),
             in_message_set: self.is_message_set(extension.extendee),
         };
         tell_extension_site(found, site)?;
@@ -173,9 +173,9 @@ impl Linked<'_> {
     /// Appends what the extensions may not be.
     pub(crate) fn tell_extensions(self, found: &mut Found) -> Result<(), AllocError>
         ensures { OnOk result (found.new ≡ found.old
-            ++ flat_map (spec.extension_faults (linked self.entry)) self.entry.extensions.now) }
+            ++ flat_map (spec.extension_faults (linked self.entry.items)) self.entry.items.extensions.now) }
     {
-        let extensions = self.extensions;
+        let extensions = self.items.extensions;
         for extension in extensions {
             self.tell_extension(found, extension)?;
         }

@@ -58,6 +58,24 @@ fn is_wrongly_optional(site: Site<'_>) -> bool
     site.record.proto3_optional() && !site.in_proto3
 }
 
+/// Whether a kind is that of a number or a text.
+fn is_scalar(kind: KindIndex) -> bool
+    ensures { result ≡ spec.is_scalar kind }
+{
+    !matches!(
+        kind,
+        KindIndex::Message(_) | KindIndex::Group(_) | KindIndex::Enum(_)
+    )
+}
+
+/// Whether its type is a number or a text by linking, which passes over the empty type name that is
+/// written with it.
+fn has_empty_name(site: Site<'_>) -> bool
+    ensures { result ≡ spec.has_empty_name (spec.site_of site.entry) }
+{
+    site.record.type_name.is_some() && is_scalar(site.kind)
+}
+
 /// Appends what neither a field nor an extension may be.
 pub(crate) fn tell_site(found: &mut Found, site: Site<'_>) -> Result<(), AllocError>
     ensures { OnOk result (found.new ≡ found.old ++ spec.site_faults (spec.site_of site.entry)) }
@@ -65,6 +83,7 @@ pub(crate) fn tell_site(found: &mut Found, site: Site<'_>) -> Result<(), AllocEr
     let default = has_repeated_default(site);
     let packed = is_wrongly_packed(site);
     let optional = is_wrongly_optional(site);
+    let named = has_empty_name(site);
     tell_name(found, site.id)?;
     tell_proto3(found, site)?;
     found.tell_if(
@@ -77,5 +96,10 @@ pub(crate) fn tell_site(found: &mut Found, site: Site<'_>) -> Result<(), AllocEr
         optional,
         StrictKind::Proto3OptionalInProto2.of(site.id),
         field::PROTO3_OPTIONAL,
+    )?;
+    found.tell_if(
+        named,
+        StrictKind::TypeNameOfScalar.of(site.id),
+        field::TYPE_NAME,
     )
 }

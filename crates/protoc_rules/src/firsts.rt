@@ -1,4 +1,4 @@
-//! The first position of each of some names.
+//! The first position of each of some names, or of each of some numbers.
 
 ghost use Rattle.std.specs.Prelude.{◌≡◌, ◌++◌, ◌∷◌, [], ℕ, List, IfOk, OnOk, length};
 ghost use Rattle.protoc_rules.specs.Firsts as spec;
@@ -21,6 +21,27 @@ pub(crate) fn first_with<'a>(
         Some(first) => Ok(Some(first)),
         None => {
             firsts.insert(name, position)?;
+            Ok(None)
+        }
+    }
+}
+
+/// The position that a number has in a table of first positions. A number that has none is given
+/// this one.
+pub(crate) fn first_numbered(
+    firsts: &mut BTreeMap<u32, usize>,
+    number: u32,
+    position: usize,
+) -> Result<Option<usize>, AllocError>
+    ensures first { IfOk result (λ first. first ≡ spec.first_at firsts.old number) }
+    ensures firsts { OnOk result ((numbers : List ℕ) → spec.HasFirstNumbers firsts.old numbers
+        → length numbers ≡ position
+        → spec.HasFirstNumbers firsts.new (numbers ++ number ∷ [])) }
+{
+    match firsts.get(&number).copied() {
+        Some(first) => Ok(Some(first)),
+        None => {
+            firsts.insert(number, position)?;
             Ok(None)
         }
     }

@@ -1,18 +1,19 @@
 //! What files may not be, and what they may not import.
 
-ghost use Rattle.std.specs.Prelude.{◌≡◌, ◌<◌, ◌++◌, ℕ, true, OnOk, IfOk, length, map};
-ghost use Rattle.std.specs.Prelude.{position as position_of};
-ghost use Rattle.std.specs.List.{list_any};
-ghost use Rattle.protoc_rules.specs.Faults.{each_told, told_at};
+ghost use Rattle.std.specs.Prelude.{◌≡◌, ◌++◌, OnOk, IfOk};
+ghost use Rattle.protoc_rules.specs.Faults.{each_told};
 ghost use Rattle.protoc_rules.specs.Imports as spec;
 
 use crate::Linked;
+use crate::cycles::{coming_back, is_marked};
 use crate::faults::{Entry, Found, StrictKind, entry_at};
+use crate::firsts::first_numbered;
 use crate::packages::tell_package;
-use plain_data::{Items, Path, Text};
+use plain_data::{Path, Text};
 use pool_types::{FileDescriptorInner, Identity};
 use proto_types::tag::file::{DEPENDENCY, NAME};
 use std::alloc::{AllocError, Global};
+use std::collections::BTreeMap;
 
 /// A file as an item whose parts are told. An index past those of a pool asks for more room than
 /// can be granted.
@@ -33,106 +34,38 @@ fn file_id(alloc: Global, index: usize) -> Result<Identity, AllocError>
     }
 }
 
-/// The position of the first of some files that is one.
-fn first_same(files: &[u32], file: u32) -> Option<usize>
-    ensures { result ≡ position_of (spec.is_same file) files.now }
-{
-    files.iter().position(|other| file == *other)
-}
-
-/// Appends that the import with a position is of a file that is imported before.
+/// Appends that the import with a position is of the file that is imported at an earlier one, if
+/// there is one.
 fn tell_import(
     found: &mut Found,
     id: &Identity,
-    imports: &[u32],
     position: usize,
+    first: Option<usize>,
 ) -> Result<(), AllocError>
-    requires { position < length imports.now }
-    ensures { OnOk result (found.new ≡ found.old
-        ++ told_at (spec.import_faults id.now imports.now) imports.now position) }
+    ensures { OnOk result (found.new ≡ found.old ++ spec.import_with id.now position first) }
 {
-    let Some(import) = imports.get(position) else {
-        return Ok(());
-    };
     let tag = DEPENDENCY;
-    let first = entry_at(tag, first_same(&imports[..position], *import));
     found.tell_pair(
         StrictKind::DuplicateImport.of(id),
         Entry { tag, position },
-        first,
+        entry_at(tag, first),
     )
 }
 
-/// Appends which imports of a file are of one that it imports before.
+/// Appends which imports of a file are of one that it imports before. Of fewer than two none is.
 fn tell_imports(found: &mut Found, id: &Identity, imports: &[u32]) -> Result<(), AllocError>
     ensures { OnOk result (found.new
         ≡ found.old ++ each_told (spec.import_faults id.now imports.now) imports.now) }
 {
-    for position in 0..imports.len() {
-        tell_import(found, id, imports, position)?;
+    if imports.len() < 2 {
+        return Ok(());
+    }
+    let mut firsts = BTreeMap::new(found.alloc());
+    for (position, import) in imports.iter().enumerate() {
+        let first = first_numbered(&mut firsts, *import, position)?;
+        tell_import(found, id, position, first)?;
     }
     Ok(())
-}
-
-/// Whether a file is marked.
-fn is_marked(marks: &[bool], file: u32) -> bool
-    ensures { result ≡ spec.is_marked marks.now file }
-{
-    match marks.get(file as usize) {
-        Some(mark) => *mark,
-        None => false,
-    }
-}
-
-/// Whether one of some files is marked.
-fn any_marked(marks: &[bool], files: &[u32]) -> bool
-    ensures { result ≡ list_any (spec.is_marked marks.now) files.now }
-{
-    files.iter().any(|file| is_marked(marks, *file))
-}
-
-/// The files that import one that is marked.
-fn importing(
-    alloc: Global,
-    files: &[FileDescriptorInner],
-    marks: &[bool],
-) -> Result<Items<bool>, AllocError>
-    ensures { IfOk result (λ next. next
-        ≡ map (list_any (spec.is_marked marks.now)) (spec.imports files.now)) }
-{
-    let mut next = Items::new(alloc);
-    for file in files {
-        next.push(any_marked(marks, file.dependencies.as_slice()))?;
-    }
-    Ok(next)
-}
-
-/// A mark for each file.
-fn all_files(alloc: Global, files: &[FileDescriptorInner]) -> Result<Items<bool>, AllocError>
-    ensures { IfOk result (λ marks. marks ≡ map (λ _. true) (spec.imports files.now)) }
-{
-    let mut marks = Items::new(alloc);
-    for _file in files {
-        marks.push(true)?;
-    }
-    Ok(marks)
-}
-
-/// The files from which a chain of imports comes back. A round that changes no mark is the last
-/// one.
-fn coming_back(alloc: Global, files: &[FileDescriptorInner]) -> Result<Items<bool>, AllocError>
-    ensures { IfOk result (λ marks. (n : ℕ)
-        → spec.is_marked marks n ≡ spec.comes_back (spec.imports files.now) n) }
-{
-    let mut marks = all_files(alloc, files)?;
-    'rounds: for _round in 0..files.len() {
-        let next = importing(alloc, files, marks.as_slice())?;
-        if next == marks {
-            return Ok(marks);
-        }
-        marks = next;
-    }
-    Ok(marks)
 }
 
 /// Appends what a file may not be: without a name, in a package that is none, with a chain of

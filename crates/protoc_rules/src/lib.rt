@@ -2,12 +2,14 @@
 //! fault is told: its text, its places and what to do.
 #![tactic(auto)]
 
+mod cycles;
 mod enums;
 mod extensions;
 mod faults;
 mod fields;
 mod firsts;
 mod imports;
+mod known;
 mod labels;
 pub mod laws;
 mod linked;

@@ -4,7 +4,6 @@ ghost use Rattle.std.specs.Prelude.{◌≡◌, slice_get};
 ghost use Rattle.std.specs.Option.{option_copied};
 ghost use Rattle.protoc_rules.specs.Linked as spec;
 
-use descriptor_decoding::says_message_set;
 use pool_types::{
     EnumDescriptorInner, ExtensionDescriptorInner, FileDescriptorInner, Identity, KindIndex,
     MessageDescriptorInner, ServiceDescriptorInner, Syntax,
@@ -82,18 +81,5 @@ impl<'a> Linked<'a> {
         ensures { option_copied result ≡ slice_get self.entry.messages.now index }
     {
         self.messages.get(index as usize)
-    }
-
-    /// Whether the message with an index is a message set.
-    pub(crate) fn is_message_set(self, index: u32) -> bool
-        ensures { result ≡ spec.is_message_set (spec.linked self.entry) index }
-    {
-        let Some(message) = self.messages.get(index as usize) else {
-            return false;
-        };
-        match self.message_record(&message.id) {
-            Some(record) => says_message_set(record),
-            None => false,
-        }
     }
 }

@@ -8,9 +8,9 @@ ghost use Rattle.protoc_rules.specs.Maps as spec;
 use crate::Linked;
 use crate::faults::{Found, StrictKind};
 use crate::fields::Site;
+use crate::known::Known;
 use crate::labels::{is_optional, is_repeated};
 use crate::linked::Recorded;
-use descriptor_decoding::says_map_entry;
 use pool_types::{FieldDescriptorInner, Identity, KindIndex};
 use proto_types::tag::field;
 use proto_types::{DescriptorProto, FieldDescriptorProto};
@@ -193,20 +193,19 @@ impl Linked<'_> {
         map: MapSite<'_>,
         recorded: Recorded<'_>,
     ) -> Result<(), AllocError>
-        ensures { OnOk result (found.new ≡ found.old ++ spec.entry_faults (linked self.entry)
+        ensures { OnOk result (found.new ≡ found.old ++ spec.made_faults (linked self.entry)
             (site_of map.entry.site) map.entry.around.now
             recorded.entry.message.now recorded.entry.record.now) }
     {
         let id = map.site.id;
-        if !says_map_entry(recorded.record) {
-            return Ok(());
-        }
         if self.is_entry_for(found.alloc(), map, recorded)? {
             return self.tell_kinds(found, id, recorded.message.fields.as_slice());
         }
         found.tell(StrictKind::MapEntry.of(id), field::TYPE_NAME)
     }
+}
 
+impl Known<'_> {
     /// Appends what a field whose type is the message with an index may not be as a map field.
     fn tell_message_map(
         self,
@@ -215,13 +214,18 @@ impl Linked<'_> {
         index: u32,
     ) -> Result<(), AllocError>
         ensures { OnOk result (found.new ≡ found.old ++ spec.message_map_faults
-            (linked self.entry) (site_of map.entry.site) map.entry.around.now index) }
+            (linked self.entry.items) (site_of map.entry.site) map.entry.around.now index) }
     {
-        let Some(message) = self.message_at(index) else {
+        if !self.is_map_entry(index) {
+            return Ok(());
+        }
+        let Some(message) = self.items.message_at(index) else {
             return Ok(());
         };
-        match self.message_record(&message.id) {
-            Some(record) => self.tell_entry(found, map, Recorded { message, record }),
+        match self.items.message_record(&message.id) {
+            Some(record) => self
+                .items
+                .tell_entry(found, map, Recorded { message, record }),
             None => Ok(()),
         }
     }
@@ -229,7 +233,7 @@ impl Linked<'_> {
     /// Appends what a map field may not be, if it is one.
     pub(crate) fn tell_map(self, found: &mut Found, map: MapSite<'_>) -> Result<(), AllocError>
         ensures { OnOk result (found.new ≡ found.old
-            ++ spec.map_faults (linked self.entry) (site_of map.entry.site)
+            ++ spec.map_faults (linked self.entry.items) (site_of map.entry.site)
             map.entry.around.now) }
     {
         match message_of(map.site.kind) {

@@ -8,9 +8,9 @@ ghost use Rattle.protoc_rules.specs.Linked.{linked};
 ghost use Rattle.protoc_rules.specs.Messages as spec;
 ghost use Rattle.protoc_rules.specs.Reserved.{reserved_names};
 
-use crate::Linked;
 use crate::faults::{Found, StrictKind};
 use crate::fields::{Site, tell_site};
+use crate::known::Known;
 use crate::labels::is_optional;
 use crate::linked::Recorded;
 use crate::maps::MapSite;
@@ -146,7 +146,7 @@ fn tell_message_oneofs(found: &mut Found, recorded: Recorded<'_>) -> Result<(), 
     tell_oneofs(found, record.field.as_slice(), message.oneofs.as_slice())
 }
 
-impl Linked<'_> {
+impl Known<'_> {
     /// Appends what a field of a message may not be.
     fn tell_field(
         self,
@@ -155,19 +155,19 @@ impl Linked<'_> {
         field: &FieldDescriptorInner,
     ) -> Result<(), AllocError>
         ensures { OnOk result (found.new ≡ found.old
-            ++ spec.field_faults (linked self.entry) owner.entry.message.now
+            ++ spec.field_faults (linked self.entry.items) owner.entry.message.now
             owner.entry.is_message_set field.now) }
     {
         let message = owner.message;
-        let Some(record) = self.field_record(&field.id) else {
+        let Some(record) = self.items.field_record(&field.id) else {
             return Ok(());
         };
         let site = Site {
             id: &field.id,
             record,
             kind: field.kind,
-            in_proto3: self.in_proto3(field.id.file),
-            is_closed: self.is_closed(field.kind),
+            in_proto3: self.items.in_proto3(field.id.file),
+            is_closed: self.items.is_closed(field.kind),
             in_message_set: owner.is_message_set,
         };
         let alone = is_alone(message.oneofs.as_slice(), field);
@@ -179,7 +179,7 @@ impl Linked<'_> {
     /// Appends what the fields of a message may not be.
     fn tell_fields(self, found: &mut Found, owner: FieldOwner<'_>) -> Result<(), AllocError>
         ensures { OnOk result (found.new ≡ found.old
-            ++ flat_map (spec.field_faults (linked self.entry) owner.entry.message.now
+            ++ flat_map (spec.field_faults (linked self.entry.items) owner.entry.message.now
             owner.entry.is_message_set) owner.entry.message.now.fields) }
     {
         let fields = owner.message.fields.as_slice();
@@ -192,9 +192,9 @@ impl Linked<'_> {
     /// Appends what a message with its record may not be.
     fn tell_recorded(self, found: &mut Found, recorded: Recorded<'_>) -> Result<(), AllocError>
         ensures { OnOk result (found.new ≡ found.old ++ spec.recorded_faults
-            (linked self.entry) recorded.entry.message.now recorded.entry.record.now) }
+            (linked self.entry.items) recorded.entry.message.now recorded.entry.record.now) }
     {
-        let in_proto3 = self.in_proto3(recorded.message.id.file);
+        let in_proto3 = self.items.in_proto3(recorded.message.id.file);
         let owner = FieldOwner {
             message: recorded.message,
             is_message_set: says_message_set(recorded.record),
@@ -212,9 +212,9 @@ impl Linked<'_> {
         message: &MessageDescriptorInner,
     ) -> Result<(), AllocError>
         ensures { OnOk result (found.new
-            ≡ found.old ++ spec.message_faults (linked self.entry) message.now) }
+            ≡ found.old ++ spec.message_faults (linked self.entry.items) message.now) }
     {
-        match self.message_record(&message.id) {
+        match self.items.message_record(&message.id) {
             Some(record) => self.tell_recorded(found, Recorded { message, record }),
             None => Ok(()),
         }
@@ -223,9 +223,9 @@ impl Linked<'_> {
     /// Appends what the messages may not be.
     pub(crate) fn tell_messages(self, found: &mut Found) -> Result<(), AllocError>
         ensures { OnOk result (found.new ≡ found.old
-            ++ flat_map (spec.message_faults (linked self.entry)) self.entry.messages.now) }
+            ++ flat_map (spec.message_faults (linked self.entry.items)) self.entry.items.messages.now) }
     {
-        let messages = self.messages;
+        let messages = self.items.messages;
         for message in messages {
             self.tell_message(found, message)?;
         }

@@ -63,13 +63,15 @@ pub fn strict_faults(
 ) -> Result<Items<StrictFault>, AllocError>
     ensures { IfOk result (λ faults. faults ≡ spec.strict_faults (linked items.entry) written.now) }
 {
+    let flags = items.flags(alloc)?;
+    let known = items.known(&flags);
     let mut found = Found::new(alloc);
     items.tell_message_types(&mut found, written.fields.as_slice())?;
     items.tell_extension_types(&mut found, written.extensions.as_slice())?;
     items.tell_files(&mut found)?;
-    items.tell_messages(&mut found)?;
+    known.tell_messages(&mut found)?;
     items.tell_enums(&mut found)?;
     items.tell_services(&mut found)?;
-    items.tell_extensions(&mut found)?;
+    known.tell_extensions(&mut found)?;
     Ok(Items::from_vec(found.into_vec()))
 }

@@ -1,0 +1,9 @@
+use Rattle.std.proofs.Common.{◌∙◌, ap, false, get_or}
+use Rattle.protoc_rules.specs.Linked.{is_entry, linked}
+use Rattle.protoc_rules.proofs.Marks.{mark-of}
+use Rattle.protoc_rules.proofs.known.Known.is_map_entry.Goals as goal
+
+pub returns : goal.returns
+returns c =
+    c.is_marked.ensures ∙ ap (λ marks. get_or marks c.args.index false) c.args.self.entries_are
+    ∙ mark-of (is_entry (linked c.args.self.items)) c.args.self.items.messages.now c.args.index
