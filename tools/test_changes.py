@@ -12,6 +12,7 @@ import contextlib
 import io
 import os
 import re
+import shutil
 import subprocess
 import sys
 import unittest
@@ -50,7 +51,7 @@ def first_fault(left_out: str) -> int:
 
 
 class ChangesTest(unittest.TestCase):
-    """Tests of compare_changes.py and make_change_rows.py."""
+    """Tests of compare_changes.py, make_change_rows.py and grow.py."""
 
     def run_tool(self, *words: str) -> subprocess.CompletedProcess[str]:
         """Runs a tool by this Python."""
@@ -78,6 +79,15 @@ class ChangesTest(unittest.TestCase):
         """Messages are read as the program says, of a few pairs."""
         done = self.run_tool("compare_changes.py", "--pairs", "40", "--messages", "20", str(CHECK))
         self.assertEqual(done.returncode, 0, done.stdout + done.stderr)
+
+    @unittest.skipUnless(os.access(CHECK, os.X_OK), f"{CHECK} is not built")
+    @unittest.skipIf(shutil.which("valgrind") is None, "valgrind is not there")
+    def test_growth(self) -> None:
+        """Of sets that are twice as large a comparison takes some two times as many instructions."""
+        shapes = ["against_renamed_enum_fields=300", "against_enum_fields=600"]
+        done = self.run_tool("grow.py", "--most", "2.6", str(CHECK), *shapes)
+        self.assertEqual(done.returncode, 0, done.stdout + done.stderr)
+        self.assertIn("million", done.stdout)
 
     def test_kinds(self) -> None:
         """The rules of a log of SARIF are the kinds of the page, each at its first level."""

@@ -3,6 +3,7 @@ pub mod ChangeKinds
 pub mod Members
 pub mod Words
 pub mod Sides
+pub mod Pools
 pub mod Services
 pub mod Options
 pub mod Removed

@@ -13,6 +13,7 @@ ghost use Rattle.pool_changes.specs.Members.{by_writer};
 ghost use Rattle.pool_changes.specs.Removed.{enum_named, file_changes, file_named, oneof_changes};
 ghost use Rattle.pool_changes.specs.FieldChanges.{part_json, part_source};
 ghost use Rattle.pool_changes.specs.FieldParts.{extension_part_at, field_part, part};
+ghost use Rattle.pool_changes.specs.Pools.{pools_of};
 ghost use Rattle.pool_changes.specs.Sides.{both_of, reader, side, versions, writer};
 
 use crate::Direction;
@@ -30,7 +31,7 @@ use crate::telling::tell_change;
 use descriptor_pool::DescriptorPool;
 use plain_data::Items;
 use pool_types::{EnumDescriptorInner, MessageDescriptorInner};
-use schema_changes::{Compared, WireChange};
+use schema_changes::{Asked, Compared, WireChange};
 use std::alloc::AllocError;
 use verdict_texts::ToldFault;
 
@@ -89,6 +90,13 @@ impl<'a> Telling<'a> {
             new: parts_of(self.reader()),
             after,
         }
+    }
+
+    /// The two versions, of whose kinds nothing was asked.
+    fn asked(self) -> Asked<'a>
+        ensures { result ≡ pools_of (versions self.entry) }
+    {
+        Asked::new(self.alloc, parts_of(self.writer()), parts_of(self.reader()))
     }
 
     /// Appends a change of a message as it is told, if it is told in the direction.
@@ -301,9 +309,12 @@ impl<'a> Telling<'a> {
     fn tell_kept_message(
         self,
         told: &mut ByLevel,
+        asked: &mut Asked<'_>,
         before: &MessageDescriptorInner,
         after: &MessageDescriptorInner,
     ) -> Result<(), AllocError>
+        requires { asked.old ≡ pools_of (versions self) }
+        ensures asked { asked.new ≡ asked.old }
         ensures wire { OnOk result (told.new.wire ≡ told.old.wire
             ++ comparing.message_told (versions self.entry) before.now (Some after.now)) }
         ensures json { OnOk result (told.new.behind.json ≡ told.old.behind.json
@@ -313,7 +324,7 @@ impl<'a> Telling<'a> {
     {
         let sides = self.both_of(before, after);
         let mut found = Vec::new(self.alloc);
-        sides.tell(&mut found)?;
+        asked.tell(&mut found, before, after)?;
         let pair = Kept {
             before,
             after,
@@ -346,9 +357,12 @@ impl<'a> Telling<'a> {
     fn tell_message(
         self,
         told: &mut ByLevel,
+        asked: &mut Asked<'_>,
         index: usize,
         before: &MessageDescriptorInner,
     ) -> Result<(), AllocError>
+        requires { asked.old ≡ pools_of (versions self) }
+        ensures asked { asked.new ≡ asked.old }
         ensures wire { OnOk result (told.new.wire ≡ told.old.wire
             ++ comparing.message_told (versions self.entry) before.now
             (message_named (reader (versions self.entry)) before.now.id.full_name)) }
@@ -360,7 +374,7 @@ impl<'a> Telling<'a> {
             (message_named (reader (versions self.entry)) before.now.id.full_name)) }
     {
         match message_near(self.alloc, self.reader(), index, before.id.full_name())? {
-            Some(after) => self.tell_kept_message(told, before, after),
+            Some(after) => self.tell_kept_message(told, asked, before, after),
             None => self.tell_lacked(told, before),
         }
     }
@@ -378,9 +392,10 @@ impl<'a> Telling<'a> {
             (message_named (reader (versions self.entry)) x.id.full_name))
             (writer (versions self.entry)).messages) }
     {
+        let mut asked = self.asked();
         let messages = self.writer().messages();
         for (index, message) in messages.iter().enumerate() {
-            self.tell_message(told, index, message)?;
+            self.tell_message(told, &mut asked, index, message)?;
         }
         Ok(())
     }

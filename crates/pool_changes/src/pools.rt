@@ -7,7 +7,7 @@ ghost use Rattle.schema_changes.specs.Pools.{of_message, changes_with, message_n
 use crate::named::message_named;
 use descriptor_pool::DescriptorPool;
 use pool_types::MessageDescriptorInner;
-use schema_changes::{Compared, MessageChange, Parts, WireChange};
+use schema_changes::{Asked, MessageChange, Parts, WireChange};
 use std::alloc::{AllocError, Global};
 
 /// An old and a new pool that are compared.
@@ -53,10 +53,16 @@ impl Pools<'_> {
     fn tell_message(
         self,
         changes: &mut Vec<MessageChange>,
+        asked: &mut Asked<'_>,
         index: u32,
         before: &MessageDescriptorInner,
     ) -> Result<(), AllocError>
-        ensures { OnOk result (changes.new.items ≡ changes.old.items
+        requires { asked.old ≡ record {
+          older = parts_of self.old.now;
+          newer = parts_of self.new.now;
+        } }
+        ensures asked { asked.new ≡ asked.old }
+        ensures told { OnOk result (changes.new.items ≡ changes.old.items
             ++ changes_with self.entry.old.now self.entry.new.now index before.now
             (message_named self.entry.new.now before.now.id.full_name)) }
     {
@@ -64,16 +70,8 @@ impl Pools<'_> {
         let Some(after) = message_named(self.alloc, self.new, name)? else {
             return Ok(());
         };
-        let old = parts_of(self.old);
-        let new = parts_of(self.new);
-        let compared = Compared {
-            old,
-            before,
-            new,
-            after,
-        };
         let mut told = Vec::new(self.alloc);
-        compared.tell(&mut told)?;
+        asked.tell(&mut told, before, after)?;
         push_each(changes, index, told.as_slice())
     }
 }
@@ -93,10 +91,11 @@ pub fn wire_changes(
 {
     old.made();
     let pools = Pools { alloc, old, new };
+    let mut asked = Asked::new(alloc, parts_of(old), parts_of(new));
     let mut changes = Vec::new(alloc);
     let messages = old.messages();
     for (index, message) in messages.iter().enumerate() {
-        pools.tell_message(&mut changes, index as u32, message)?;
+        pools.tell_message(&mut changes, &mut asked, index as u32, message)?;
     }
     Ok(changes)
 }

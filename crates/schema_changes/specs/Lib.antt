@@ -5,6 +5,9 @@ pub mod Lacking
 pub mod Records
 pub mod MapEntries
 pub mod Pairs
+pub mod Both
+pub mod BothCode
+pub mod Asked
 pub mod MessageSets
 pub mod Changes
 pub mod Unchanged

@@ -11,11 +11,12 @@ ghost use Rattle.schema_changes.specs.Changes.{kept_changes, entry_changes, exte
 ghost use Rattle.schema_changes.specs.Changes.{was_required, required_changes, taken_changes};
 ghost use Rattle.schema_changes.specs.Changes.{added_changes, added_extension_changes};
 ghost use Rattle.schema_changes.specs.Changes.{is_taken, range_changes, oneof_changes};
+ghost use Rattle.schema_changes.specs.Asked.{pools_of};
 ghost use Rattle.schema_changes.specs.Changes.{message_changes};
 
+use crate::asked::Asked;
 use crate::entries::field_entry;
 use crate::kinds::keeps_cardinality;
-use crate::pairs::keeps_kind;
 use crate::{Entry, Parts, WireChange, WireChangeKind};
 use field_rules::item_number;
 use pool_types::{Cardinality, MessageDescriptorInner};
@@ -76,13 +77,16 @@ impl Compared<'_> {
     fn tell_kept(
         &self,
         changes: &mut Vec<WireChange>,
+        asked: &mut Asked<'_>,
         entry: &Entry,
         kept: &Entry,
     ) -> Result<(), AllocError>
-        ensures { OnOk result (changes.new.items ≡ changes.old.items
+        requires { asked.old ≡ pools_of (compared self.now) }
+        ensures asked { asked.new ≡ asked.old }
+        ensures told { OnOk result (changes.new.items ≡ changes.old.items
             ++ kept_changes (compared self.now) entry.now (Some kept.now)) }
     {
-        let kind = keeps_kind(&self.old, entry, &self.new, kept);
+        let kind = asked.keeps_kind(entry, kept)?;
         push_unless(changes, kind, entry.number, WireChangeKind::Kind)?;
         let cardinality = keeps_cardinality(entry.kind, entry.cardinality, kept.cardinality);
         push_unless(
@@ -104,12 +108,19 @@ impl Compared<'_> {
     }
 
     /// Appends what the new entry with its number changes of an old one.
-    fn tell_entry(&self, changes: &mut Vec<WireChange>, entry: &Entry) -> Result<(), AllocError>
-        ensures { OnOk result (changes.new.items ≡ changes.old.items
+    fn tell_entry(
+        &self,
+        changes: &mut Vec<WireChange>,
+        asked: &mut Asked<'_>,
+        entry: &Entry,
+    ) -> Result<(), AllocError>
+        requires { asked.old ≡ pools_of (compared self.now) }
+        ensures asked { asked.new ≡ asked.old }
+        ensures told { OnOk result (changes.new.items ≡ changes.old.items
             ++ entry_changes (compared self.now) entry.now) }
     {
         match self.new_entry(entry.number) {
-            Some(kept) => self.tell_kept(changes, entry, &kept),
+            Some(kept) => self.tell_kept(changes, asked, entry, &kept),
             None => self.tell_removed(changes, entry.number),
         }
     }
@@ -157,14 +168,20 @@ impl Compared<'_> {
     }
 
     /// Appends what the new entries with their numbers change of the old fields.
-    fn tell_fields(&self, changes: &mut Vec<WireChange>) -> Result<(), AllocError>
-        ensures { OnOk result (changes.new.items ≡ changes.old.items
+    fn tell_fields(
+        &self,
+        changes: &mut Vec<WireChange>,
+        asked: &mut Asked<'_>,
+    ) -> Result<(), AllocError>
+        requires { asked.old ≡ pools_of (compared self.now) }
+        ensures asked { asked.new ≡ asked.old }
+        ensures told { OnOk result (changes.new.items ≡ changes.old.items
             ++ flat_map (λ f. entry_changes (compared self.now) (field_entry f))
             self.now.before.now.fields) }
     {
         let fields = self.before.fields.as_slice();
         for field in fields {
-            self.tell_entry(changes, &field_entry(field))?;
+            self.tell_entry(changes, asked, &field_entry(field))?;
         }
         Ok(())
     }
@@ -173,27 +190,37 @@ impl Compared<'_> {
     fn tell_extension(
         &self,
         changes: &mut Vec<WireChange>,
+        asked: &mut Asked<'_>,
         extension: Option<Entry>,
     ) -> Result<(), AllocError>
-        ensures { OnOk result (changes.new.items ≡ changes.old.items
+        requires { asked.old ≡ pools_of (compared self.now) }
+        ensures asked { asked.new ≡ asked.old }
+        ensures told { OnOk result (changes.new.items ≡ changes.old.items
             ++ extension_changes (compared self.now) extension) }
     {
         match extension {
-            Some(entry) => self.tell_entry(changes, &entry),
+            Some(entry) => self.tell_entry(changes, asked, &entry),
             None => Ok(()),
         }
     }
 
     /// Appends what the new entries with their numbers change of the old extensions.
-    fn tell_extensions(&self, changes: &mut Vec<WireChange>) -> Result<(), AllocError>
-        ensures { OnOk result (changes.new.items ≡ changes.old.items
+    fn tell_extensions(
+        &self,
+        changes: &mut Vec<WireChange>,
+        asked: &mut Asked<'_>,
+    ) -> Result<(), AllocError>
+        requires { asked.old ≡ pools_of (compared self.now) }
+        ensures asked { asked.new ≡ asked.old }
+        ensures told { OnOk result (changes.new.items ≡ changes.old.items
             ++ flat_map (λ i. extension_changes (compared self.now)
             (extension_in (parts self.now.old) self.now.before.now i))
             self.now.before.now.extensions) }
     {
         let extensions = self.before.extensions.as_slice();
         for index in extensions {
-            self.tell_extension(changes, self.old.extension_in(self.before, *index))?;
+            let extension = self.old.extension_in(self.before, *index);
+            self.tell_extension(changes, asked, extension)?;
         }
         Ok(())
     }
@@ -304,22 +331,51 @@ impl Compared<'_> {
         Ok(())
     }
 
-    /// Appends the changes of the message by which bytes are read otherwise: of each old field and
-    /// extension, of each new oneof, of each new field and extension, and then of each range of
-    /// numbers that was reserved.
-    ///
-    /// # Errors
-    /// `AllocError` where memory was refused. What is appended then isn't said.
-    pub fn tell(self, changes: &mut Vec<WireChange>) -> Result<(), AllocError>
-        ensures { OnOk result (changes.new.items ≡ changes.old.items
-            ++ message_changes (compared self.entry)) }
+    /// Appends the changes of the two messages, in this order.
+    fn tell(&self, changes: &mut Vec<WireChange>, asked: &mut Asked<'_>) -> Result<(), AllocError>
+        requires { asked.old ≡ pools_of (compared self.now) }
+        ensures asked { asked.new ≡ asked.old }
+        ensures told { OnOk result (changes.new.items ≡ changes.old.items
+            ++ message_changes (compared self.now)) }
     {
-        self.tell_fields(changes)?;
-        self.tell_extensions(changes)?;
+        self.tell_fields(changes, asked)?;
+        self.tell_extensions(changes, asked)?;
         self.tell_oneofs(changes)?;
         let reserved = self.old.reserved(self.before);
         self.tell_added_fields(changes, reserved)?;
         self.tell_added_extensions(changes, reserved)?;
         self.tell_ranges(changes, reserved)
+    }
+}
+
+impl Asked<'_> {
+    /// Appends the changes of an old and a new message by which bytes are read otherwise: of each
+    /// old field and extension, of each new oneof, of each new field and extension, and then of
+    /// each range of numbers that was reserved.
+    ///
+    /// # Errors
+    /// `AllocError` where memory was refused. What is appended then isn't said.
+    pub fn tell(
+        &mut self,
+        changes: &mut Vec<WireChange>,
+        before: &MessageDescriptorInner,
+        after: &MessageDescriptorInner,
+    ) -> Result<(), AllocError>
+        ensures asked { self.new ≡ self.old }
+        ensures told { OnOk result (changes.new.items ≡ changes.old.items
+            ++ message_changes (record {
+              old = self.old.older;
+              before = before.now;
+              new = self.old.newer;
+              after = after.now;
+            })) }
+    {
+        let sides = Compared {
+            old: self.old_parts(),
+            before,
+            new: self.new_parts(),
+            after,
+        };
+        sides.tell(changes, self)
     }
 }

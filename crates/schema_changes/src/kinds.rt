@@ -1,6 +1,6 @@
 //! Whether a new kind keeps an old one.
 
-ghost use Rattle.std.specs.Prelude.{◌≡◌, ◌||◌};
+ghost use Rattle.std.specs.Prelude.{◌≡◌};
 ghost use Rattle.std.specs.List.{list_all};
 ghost use Rattle.pool_types.specs.declared.kinds.KindIndex.TheVariants as kind;
 ghost use Rattle.schema_changes.specs.Parts.{parts, has_value, values_of};
@@ -97,7 +97,12 @@ fn holds_each(items: &Parts<'_>, kind: KindIndex, values: &[EnumValueDescriptorI
 
 /// Whether each number of an old kind is one of a new kind, and is encoded alike.
 #[tactic(auto, unfolding(crate::specs::Kinds::keeps_numbers))]
-fn keeps_numbers(old: &Parts<'_>, old_kind: KindIndex, new: &Parts<'_>, new_kind: KindIndex) -> bool
+pub(crate) fn keeps_numbers(
+    old: &Parts<'_>,
+    old_kind: KindIndex,
+    new: &Parts<'_>,
+    new_kind: KindIndex,
+) -> bool
     ensures { result ≡ keeps_numbers (parts old.now) old_kind (parts new.now) new_kind }
 {
     match old_kind {
@@ -167,15 +172,12 @@ pub fn messages_of(old: KindIndex, new: KindIndex) -> Option<(u32, u32)>
     }
 }
 
-/// Whether the kind of a new entry keeps that of an old one, where both have numbers or texts.
-pub(crate) fn keeps_scalar(old: &Parts<'_>, field: &Entry, new: &Parts<'_>, kept: &Entry) -> bool
-    ensures { result
-        ≡ (keeps_numbers (parts old.now) field.now.kind (parts new.now) kept.now.kind
-        || keeps_check (entry_check (parts old.now) field.now)
-        (entry_check (parts new.now) kept.now)) }
+/// Whether texts of an old entry that were not checked are not checked in a new one.
+pub(crate) fn keeps_texts(old: &Parts<'_>, field: &Entry, new: &Parts<'_>, kept: &Entry) -> bool
+    ensures { result ≡ keeps_check (entry_check (parts old.now) field.now)
+        (entry_check (parts new.now) kept.now) }
 {
-    keeps_numbers(old, field.kind, new, kept.kind)
-        || keeps_check(entry_check(old, field), entry_check(new, kept))
+    keeps_check(entry_check(old, field), entry_check(new, kept))
 }
 
 /// Whether a field of a kind may become repeated, or not repeated.

@@ -1,6 +1,8 @@
 //! What a new schema changes of an old one, so that bytes are read otherwise.
 #![tactic(auto)]
 
+mod answers;
+mod asked;
 mod change;
 mod compared;
 mod entries;
@@ -14,6 +16,7 @@ mod pairs;
 mod parts;
 mod records;
 
+pub use asked::Asked;
 pub use change::{MessageChange, WireChange, WireChangeKind};
 pub use compared::Compared;
 pub use entries::{Entry, extension_entry, field_entry};

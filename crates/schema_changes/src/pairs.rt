@@ -2,6 +2,7 @@
 
 ghost use Rattle.std.specs.Prelude.{◌≡◌, ◌&&◌, ◌==◌, length};
 ghost use Rattle.std.specs.List.{list_all};
+ghost use Rattle.schema_changes.specs.Changes.{compared};
 ghost use Rattle.schema_changes.specs.Parts.{parts};
 ghost use Rattle.schema_changes.specs.Entries.{entry_numbered, field_entry};
 ghost use Rattle.schema_changes.specs.Kinds.{keeps_kind_by};
@@ -11,12 +12,13 @@ ghost use Rattle.schema_changes.specs.Pairs.{are_alike, keeps_message, leaves_re
 ghost use Rattle.schema_changes.specs.Records.{keeps_range, reserved_of};
 ghost use Rattle.schema_changes.specs.Pairs.{keeps_map, are_inner_pairs, are_paired, keeps_kind};
 
+use crate::asked::Asked;
 use crate::entries::field_entry;
-use crate::kinds::{keeps_cardinality, keeps_scalar, messages_of};
+use crate::kinds::{keeps_cardinality, messages_of};
 use crate::oneofs::in_one;
 use crate::records::is_reserved;
-use crate::{Compared, Entry, Parts};
-use pool_types::{Cardinality, FieldDescriptorInner};
+use crate::{Compared, Entry};
+use pool_types::{Cardinality, FieldDescriptorInner, MessageDescriptorInner};
 use proto_types::ReservedRange;
 
 /// Whether a new field keeps an old one, but for its kind.
@@ -79,44 +81,65 @@ impl Compared<'_> {
     {
         self.before.extensions.as_slice().is_empty() && self.after.extensions.as_slice().is_empty()
     }
+}
 
-    /// Whether the kind of a new field keeps that of an old one, where messages are pairs by their
-    /// names.
-    fn keeps_named_kind(&self, field: &Entry, kept: &Entry) -> bool
-        ensures { result ≡ keeps_kind_by
-            (λ a b. are_alike (parts self.now.old) a (parts self.now.new) b)
-            (parts self.now.old) field.now (parts self.now.new) kept.now }
+/// An old and a new message of two pools of which something was asked.
+#[derive(Clone, Copy)]
+pub(crate) struct Pair<'a> {
+    pub asked: &'a Asked<'a>,
+    pub before: &'a MessageDescriptorInner,
+    pub after: &'a MessageDescriptorInner,
+}
+
+impl<'a> Pair<'a> {
+    /// The two messages, each with the items of its pool.
+    fn sides(self) -> Compared<'a>
+        ensures { compared result ≡ record {
+          old = self.entry.asked.now.older;
+          before = self.entry.before.now;
+          new = self.entry.asked.now.newer;
+          after = self.entry.after.now;
+        } }
     {
-        if keeps_scalar(&self.old, field, &self.new, kept) {
-            return true;
+        Compared {
+            old: self.asked.old_parts(),
+            before: self.before,
+            new: self.asked.new_parts(),
+            after: self.after,
         }
-        match messages_of(field.kind, kept.kind) {
-            Some((index, new_index)) => self.old.is_alike(index, self.new, new_index),
-            None => false,
-        }
+    }
+
+    /// Whether a new entry takes no number that the old message reserved.
+    fn leaves_reserved(self, kept: &Entry) -> bool
+        ensures { result ≡ leaves_reserved self.entry.asked.now.older self.entry.before.now
+            kept.now }
+    {
+        self.sides().leaves_reserved(kept)
     }
 
     /// Whether a new field keeps the old entry with its number, where messages are pairs by their
     /// names.
-    fn keeps_named_entry(&self, kept: &Entry) -> bool
+    fn keeps_named_entry(self, kept: &Entry) -> bool
         ensures { result ≡ keeps_entry
-            (λ a b. are_alike (parts self.now.old) a (parts self.now.new) b)
-            (parts self.now.old)
-            (entry_numbered (parts self.now.old) self.now.before.now kept.now.number)
-            (parts self.now.new) kept.now }
+            (λ a b. are_alike self.entry.asked.now.older a self.entry.asked.now.newer b)
+            self.entry.asked.now.older
+            (entry_numbered self.entry.asked.now.older self.entry.before.now kept.now.number)
+            self.entry.asked.now.newer kept.now }
     {
-        match self.old_entry(kept.number) {
-            Some(field) => self.keeps_named_kind(&field, kept) && keeps_but_kind(&field, kept),
+        match self.sides().old_entry(kept.number) {
+            Some(field) => {
+                self.asked.keeps_named_kind(&field, kept) && keeps_but_kind(&field, kept)
+            }
             None => kept.cardinality != Cardinality::Required,
         }
     }
 
     /// Whether a new field keeps what the old message has of its number, where messages are pairs
     /// by their names.
-    fn keeps_named_part(&self, field: &FieldDescriptorInner) -> bool
+    fn keeps_named_part(self, field: &FieldDescriptorInner) -> bool
         ensures { result ≡ keeps_part
-            (λ a b. are_alike (parts self.now.old) a (parts self.now.new) b)
-            (parts self.now.old) self.now.before.now (parts self.now.new)
+            (λ a b. are_alike self.entry.asked.now.older a self.entry.asked.now.newer b)
+            self.entry.asked.now.older self.entry.before.now self.entry.asked.now.newer
             (field_entry field.now) }
     {
         let kept = field_entry(field);
@@ -125,11 +148,11 @@ impl Compared<'_> {
 
     /// Whether the new fields keep what the old message has of their numbers, where messages are
     /// pairs by their names.
-    fn keeps_named_parts(&self) -> bool
+    fn keeps_named_parts(self) -> bool
         ensures { result ≡ list_all (λ g. keeps_part
-            (λ a b. are_alike (parts self.now.old) a (parts self.now.new) b)
-            (parts self.now.old) self.now.before.now (parts self.now.new) (field_entry g))
-            self.now.after.now.fields }
+            (λ a b. are_alike self.entry.asked.now.older a self.entry.asked.now.newer b)
+            self.entry.asked.now.older self.entry.before.now self.entry.asked.now.newer
+            (field_entry g)) self.entry.after.now.fields }
     {
         let fields = self.after.fields.as_slice();
         fields.iter().all(|field| self.keeps_named_part(field))
@@ -137,50 +160,31 @@ impl Compared<'_> {
 
     /// Whether the new message keeps the old one, where messages are pairs by their names.
     #[tactic(auto, unfolding(crate::specs::Pairs::keeps_parts))]
-    fn is_kept_by_names(&self) -> bool
+    fn is_kept_by_names(self) -> bool
         ensures { result ≡ keeps_parts
-            (λ a b. are_alike (parts self.now.old) a (parts self.now.new) b)
-            (parts self.now.old) self.now.before.now
-            (parts self.now.new) self.now.after.now }
+            (λ a b. are_alike self.entry.asked.now.older a self.entry.asked.now.newer b)
+            self.entry.asked.now.older self.entry.before.now
+            self.entry.asked.now.newer self.entry.after.now }
     {
-        self.is_unextended()
+        let sides = self.sides();
+        sides.is_unextended()
             && self.keeps_named_parts()
-            && self.keeps_each_number()
-            && self.keeps_each_range()
-    }
-
-    /// Whether the kind of a new field keeps that of an old one, in two messages that may have
-    /// other names.
-    fn keeps_inner_kind(&self, pair: (u32, u32), field: &Entry, kept: &Entry) -> bool
-        ensures { result ≡ keeps_kind_by
-            (are_inner_pairs (parts self.now.old) pair.0 (parts self.now.new) pair.1)
-            (parts self.now.old) field.now (parts self.now.new) kept.now }
-    {
-        if keeps_scalar(&self.old, field, &self.new, kept) {
-            return true;
-        }
-        match messages_of(field.kind, kept.kind) {
-            Some((index, new_index)) => {
-                self.old.is_alike(index, self.new, new_index)
-                    || self.old.keeps_map(index, self.new, new_index)
-                    || (index == pair.0 && new_index == pair.1)
-            }
-            None => false,
-        }
+            && sides.keeps_each_number()
+            && sides.keeps_each_range()
     }
 
     /// Whether a new field keeps the old entry with its number, in two messages that may have other
     /// names.
-    fn keeps_inner_entry(&self, pair: (u32, u32), kept: &Entry) -> bool
+    fn keeps_inner_entry(self, pair: (u32, u32), kept: &Entry) -> bool
         ensures { result ≡ keeps_entry
-            (are_inner_pairs (parts self.now.old) pair.0 (parts self.now.new) pair.1)
-            (parts self.now.old)
-            (entry_numbered (parts self.now.old) self.now.before.now kept.now.number)
-            (parts self.now.new) kept.now }
+            (are_inner_pairs self.entry.asked.now.older pair.0 self.entry.asked.now.newer pair.1)
+            self.entry.asked.now.older
+            (entry_numbered self.entry.asked.now.older self.entry.before.now kept.now.number)
+            self.entry.asked.now.newer kept.now }
     {
-        match self.old_entry(kept.number) {
+        match self.sides().old_entry(kept.number) {
             Some(field) => {
-                self.keeps_inner_kind(pair, &field, kept) && keeps_but_kind(&field, kept)
+                self.asked.keeps_inner_kind(pair, &field, kept) && keeps_but_kind(&field, kept)
             }
             None => kept.cardinality != Cardinality::Required,
         }
@@ -188,10 +192,10 @@ impl Compared<'_> {
 
     /// Whether a new field keeps what the old message has of its number, in two messages that may
     /// have other names.
-    fn keeps_inner_part(&self, pair: (u32, u32), field: &FieldDescriptorInner) -> bool
+    fn keeps_inner_part(self, pair: (u32, u32), field: &FieldDescriptorInner) -> bool
         ensures { result ≡ keeps_part
-            (are_inner_pairs (parts self.now.old) pair.0 (parts self.now.new) pair.1)
-            (parts self.now.old) self.now.before.now (parts self.now.new)
+            (are_inner_pairs self.entry.asked.now.older pair.0 self.entry.asked.now.newer pair.1)
+            self.entry.asked.now.older self.entry.before.now self.entry.asked.now.newer
             (field_entry field.now) }
     {
         let kept = field_entry(field);
@@ -200,11 +204,11 @@ impl Compared<'_> {
 
     /// Whether the new fields keep what the old message has of their numbers, in two messages that
     /// may have other names.
-    fn keeps_inner_parts(&self, pair: (u32, u32)) -> bool
+    fn keeps_inner_parts(self, pair: (u32, u32)) -> bool
         ensures { result ≡ list_all (λ g. keeps_part
-            (are_inner_pairs (parts self.now.old) pair.0 (parts self.now.new) pair.1)
-            (parts self.now.old) self.now.before.now (parts self.now.new) (field_entry g))
-            self.now.after.now.fields }
+            (are_inner_pairs self.entry.asked.now.older pair.0 self.entry.asked.now.newer pair.1)
+            self.entry.asked.now.older self.entry.before.now self.entry.asked.now.newer
+            (field_entry g)) self.entry.after.now.fields }
     {
         let fields = self.after.fields.as_slice();
         fields
@@ -214,96 +218,120 @@ impl Compared<'_> {
 
     /// Whether the new message keeps the old one, which may have another name.
     #[tactic(auto, unfolding(crate::specs::Pairs::keeps_parts))]
-    fn is_kept(&self, pair: (u32, u32)) -> bool
+    fn is_kept(self, pair: (u32, u32)) -> bool
         ensures { result ≡ keeps_parts
-            (are_inner_pairs (parts self.now.old) pair.0 (parts self.now.new) pair.1)
-            (parts self.now.old) self.now.before.now
-            (parts self.now.new) self.now.after.now }
+            (are_inner_pairs self.entry.asked.now.older pair.0 self.entry.asked.now.newer pair.1)
+            self.entry.asked.now.older self.entry.before.now
+            self.entry.asked.now.newer self.entry.after.now }
     {
-        self.is_unextended()
+        let sides = self.sides();
+        sides.is_unextended()
             && self.keeps_inner_parts(pair)
-            && self.keeps_each_number()
-            && self.keeps_each_range()
+            && sides.keeps_each_number()
+            && sides.keeps_each_range()
     }
 }
 
-impl Parts<'_> {
+impl Asked<'_> {
     /// Whether two messages are alike: they have one full name, and both are entries of maps, or
     /// neither is.
     #[tactic(auto, unfolding(crate::specs::Pairs::are_alike))]
-    fn is_alike(self, index: u32, new: Parts<'_>, new_index: u32) -> bool
-        ensures { result ≡ are_alike (parts self.entry) index (parts new.entry) new_index }
+    pub(crate) fn is_alike(&self, index: u32, new_index: u32) -> bool
+        ensures { result ≡ are_alike self.now.older index self.now.newer new_index }
     {
-        if !self.has_name_of(index, new, new_index) {
+        let (old, new) = (self.old_parts(), self.new_parts());
+        if !old.has_name_of(index, new, new_index) {
             return false;
         }
         let after = new.map_entry_at(new_index);
-        match self.map_entry_at(index) {
+        match old.map_entry_at(index) {
             Some(_) => after.is_some(),
             None => after.is_none(),
         }
     }
 
-    /// Whether two messages are entries of maps, of which the new one keeps the old one.
+    /// Whether the kind of a new field keeps that of an old one, where messages are pairs by their
+    /// names.
+    fn keeps_named_kind(&self, field: &Entry, kept: &Entry) -> bool
+        ensures { result ≡ keeps_kind_by (λ a b. are_alike self.now.older a self.now.newer b)
+            self.now.older field.now self.now.newer kept.now }
+    {
+        if self.keeps_scalar(field, kept) {
+            return true;
+        }
+        match messages_of(field.kind, kept.kind) {
+            Some((index, new_index)) => self.is_alike(index, new_index),
+            None => false,
+        }
+    }
+
+    /// Whether two messages are entries of maps, of which the new one keeps the old one, where that
+    /// was not asked.
     #[tactic(auto, unfolding(crate::specs::Pairs::keeps_map))]
-    fn keeps_map(self, index: u32, new: Parts<'_>, new_index: u32) -> bool
-        ensures { result ≡ keeps_map (parts self.entry) index (parts new.entry) new_index }
+    pub(crate) fn finds_map(&self, index: u32, new_index: u32) -> bool
+        ensures { result ≡ keeps_map self.now.older index self.now.newer new_index }
     {
-        let old = self;
-        match (old.map_entry_at(index), new.map_entry_at(new_index)) {
+        let before = self.old_parts().map_entry_at(index);
+        match (before, self.new_parts().map_entry_at(new_index)) {
             (Some(before), Some(after)) => {
-                Compared {
-                    old,
+                let pair = Pair {
+                    asked: self,
                     before,
-                    new,
                     after,
-                }
-                .is_kept_by_names()
+                };
+                pair.is_kept_by_names()
             }
             _ => false,
         }
     }
 
-    /// Whether the new one of two messages keeps the old one, which may have another name.
+    /// Whether two messages are entries of maps, of which the new one keeps the old one.
+    pub(crate) fn keeps_map(&self, index: u32, new_index: u32) -> bool
+        ensures { result ≡ keeps_map self.now.older index self.now.newer new_index }
+    {
+        match self.map_answer(index, new_index) {
+            Some(is_kept) => is_kept,
+            None => self.finds_map(index, new_index),
+        }
+    }
+
+    /// Whether the kind of a new field keeps that of an old one, in two messages that may have
+    /// other names.
+    fn keeps_inner_kind(&self, pair: (u32, u32), field: &Entry, kept: &Entry) -> bool
+        ensures { result ≡ keeps_kind_by
+            (are_inner_pairs self.now.older pair.0 self.now.newer pair.1)
+            self.now.older field.now self.now.newer kept.now }
+    {
+        if self.keeps_scalar(field, kept) {
+            return true;
+        }
+        match messages_of(field.kind, kept.kind) {
+            Some((index, new_index)) => {
+                self.is_alike(index, new_index)
+                    || self.keeps_map(index, new_index)
+                    || (index == pair.0 && new_index == pair.1)
+            }
+            None => false,
+        }
+    }
+
+    /// Whether the new one of two messages keeps the old one, which may have another name, where
+    /// that was not asked.
     #[tactic(auto, unfolding(crate::specs::Pairs::keeps_message))]
-    fn keeps_message(self, index: u32, new: Parts<'_>, new_index: u32) -> bool
-        ensures { result ≡ keeps_message (parts self.entry) index (parts new.entry) new_index }
+    pub(crate) fn finds_message(&self, index: u32, new_index: u32) -> bool
+        ensures { result ≡ keeps_message self.now.older index self.now.newer new_index }
     {
-        let old = self;
-        match (old.plain_message_at(index), new.plain_message_at(new_index)) {
+        let before = self.old_parts().plain_message_at(index);
+        match (before, self.new_parts().plain_message_at(new_index)) {
             (Some(before), Some(after)) => {
-                Compared {
-                    old,
+                let pair = Pair {
+                    asked: self,
                     before,
-                    new,
                     after,
-                }
-                .is_kept((index, new_index))
+                };
+                pair.is_kept((index, new_index))
             }
             _ => false,
         }
-    }
-
-    /// Whether two messages are a pair: they are alike, or the new one keeps the old one.
-    #[tactic(auto, unfolding(crate::specs::Pairs::are_paired))]
-    fn is_paired_with(self, index: u32, new: Parts<'_>, new_index: u32) -> bool
-        ensures { result ≡ are_paired (parts self.entry) index (parts new.entry) new_index }
-    {
-        self.is_alike(index, new, new_index)
-            || self.keeps_map(index, new, new_index)
-            || self.keeps_message(index, new, new_index)
-    }
-}
-
-/// Whether the kind of a new entry keeps that of an old one.
-pub(crate) fn keeps_kind(old: &Parts<'_>, field: &Entry, new: &Parts<'_>, kept: &Entry) -> bool
-    ensures { result ≡ keeps_kind (parts old.now) field.now (parts new.now) kept.now }
-{
-    if keeps_scalar(old, field, new, kept) {
-        return true;
-    }
-    match messages_of(field.kind, kept.kind) {
-        Some((index, new_index)) => old.is_paired_with(index, *new, new_index),
-        None => false,
     }
 }

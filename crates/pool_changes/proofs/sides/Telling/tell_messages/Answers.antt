@@ -13,6 +13,7 @@ loop-index-preserved c =
     let same : c.messages-messages.result.now ≡ (writer v).messages = c.messages-messages.ensures.items ∙ ap (λ p. p.messages) c.writer.ensures in
     let x = c.index-messages-index.result in
     record {
+      asked = c.tell_message.ensures.asked ∙ c.loop-index.invariant.asked;
       wire = told-next (λ m. message_told v m (message_named (reader v) m.id.full_name)) c.messages-messages.result.now (writer v).messages c.loop-index.index x x c.args.told.now.wire c.loop-index.told.wire c.tell_message.new.told.wire
           same c.loop-index-test.true c.index-messages-index.is c.loop-index.invariant.wire c.in_ok-tell_message.ensures.wire;
       json = told-next (λ m. message_json v m (message_named (reader v) m.id.full_name)) c.messages-messages.result.now (writer v).messages c.loop-index.index x x c.args.told.now.behind.json c.loop-index.told.behind.json c.tell_message.new.told.behind.json
