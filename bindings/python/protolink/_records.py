@@ -3,7 +3,8 @@ library tells."""
 
 from __future__ import annotations
 
-from collections.abc import Iterator, Sequence
+from collections.abc import Iterable, Iterator, Sequence
+from itertools import islice
 from typing import Union, cast
 
 NAME = 1
@@ -18,8 +19,8 @@ FIXED = {1: 8, 5: 4}
 
 def name_of(record: bytes) -> str:
     """The name of the file."""
-    names = [value for number, value in fields(record) if number == NAME]
-    return names[-1].decode() if names and isinstance(names[-1], bytes) else ""
+    names = list(records(record, NAME))
+    return names[-1].decode() if names else ""
 
 
 def public_dependencies(record: bytes) -> list[int]:
@@ -34,9 +35,13 @@ def public_dependencies(record: bytes) -> list[int]:
 def record_at(record: bytes, path: Sequence[int]) -> bytes:
     """The record to which a path leads in another: numbers of fields, and positions from 0."""
     for wanted, position in zip(path[::2], path[1::2]):
-        values = [value for number, value in fields(record) if number == wanted]
-        record = cast(bytes, values[position])
+        record = next(islice(records(record, wanted), position, None))
     return record
+
+
+def records(record: bytes, wanted: int) -> Iterator[bytes]:
+    """The values of a field of a record that are bytes, texts or records."""
+    return (cast(bytes, value) for number, value in fields(record) if number == wanted)
 
 
 def fields(record: bytes) -> Iterator[tuple[int, Union[int, bytes]]]:
@@ -71,3 +76,14 @@ def varint(data: bytes, at: int) -> tuple[int, int]:
         at, shift = at + 1, shift + 7
         if byte < 0x80:
             return number, at
+
+
+def packed(numbers: Iterable[int]) -> bytes:
+    """Numbers that are not below 0, as `varints` reads them."""
+    data = bytearray()
+    for number in numbers:
+        while number >= 0x80:
+            data.append(number & 0x7F | 0x80)
+            number >>= 7
+        data.append(number)
+    return bytes(data)
