@@ -16,7 +16,7 @@ LOCATION = 1
 SPAN = 2
 """The field of a location that has its span."""
 
-COMMENTS = (3, 4, 6)
+LEADING, TRAILING, DETACHED = 3, 4, 6
 """Those that have the comment right before, the one right behind, and those that stand apart."""
 
 PATH_TAG = b"\x0a"
@@ -54,13 +54,15 @@ class Locations:
         record = self._records.get(packed(path))
         if record is None:
             return None
-        found: dict[int, list[bytes]] = {}
+        span: list[int] = []
+        texts: dict[int, list[str]] = {LEADING: [], TRAILING: [], DETACHED: []}
         for number, value in fields(record):
-            found.setdefault(number, []).append(cast(bytes, value))
-        span = tuple(map(_signed, varints(b"".join(found.get(SPAN, ())))))
-        texts = [[it.decode() for it in found.get(number, ())] for number in COMMENTS]
-        leading, trailing, detached = texts
-        return Location(tuple(path), span, _last(leading), _last(trailing), detached)
+            if number == SPAN:
+                span += map(_signed, varints(cast(bytes, value)))
+            elif number in texts:
+                texts[number].append(cast(bytes, value).decode())
+        leading, trailing, detached = texts.values()
+        return Location(tuple(path), tuple(span), _last(leading), _last(trailing), detached)
 
 
 def _path_of(record: bytes) -> bytes:

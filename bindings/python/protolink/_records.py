@@ -3,7 +3,7 @@ library tells."""
 
 from __future__ import annotations
 
-from collections.abc import Iterable, Iterator, Sequence
+from collections.abc import Iterator, Sequence
 from itertools import islice
 from typing import Union, cast
 
@@ -59,12 +59,15 @@ def fields(record: bytes) -> Iterator[tuple[int, Union[int, bytes]]]:
             at += length
 
 
-def varints(data: bytes) -> Iterator[int]:
+def varints(data: bytes) -> list[int]:
     """Numbers of seven bits a byte, one behind another."""
-    at = 0
+    if data.isascii():
+        return list(data)  # each has one byte
+    numbers, at = [], 0
     while at < len(data):
         number, at = varint(data, at)
-        yield number
+        numbers.append(number)
+    return numbers
 
 
 def varint(data: bytes, at: int) -> tuple[int, int]:
@@ -78,8 +81,10 @@ def varint(data: bytes, at: int) -> tuple[int, int]:
             return number, at
 
 
-def packed(numbers: Iterable[int]) -> bytes:
+def packed(numbers: Sequence[int]) -> bytes:
     """Numbers that are not below 0, as `varints` reads them."""
+    if max(numbers, default=0) < 0x80:
+        return bytes(numbers)
     data = bytearray()
     for number in numbers:
         while number >= 0x80:
