@@ -46,9 +46,11 @@ def records(record: bytes, wanted: int) -> Iterator[bytes]:
 
 def fields(record: bytes) -> Iterator[tuple[int, Union[int, bytes]]]:
     """The fields of a record, each with its number and its value."""
-    at = 0
-    while at < len(record):
-        tag, at = varint(record, at)
+    at, end = 0, len(record)
+    while at < end:
+        tag, at = record[at], at + 1
+        if tag >= 0x80:
+            tag, at = varint(record, at - 1)
         number, wire_type = tag >> 3, tag & 7
         if wire_type == 0:
             value, at = varint(record, at)
@@ -72,6 +74,9 @@ def varints(data: bytes) -> list[int]:
 
 def varint(data: bytes, at: int) -> tuple[int, int]:
     """A number of seven bits a byte, and where it ends."""
+    number = data[at]
+    if number < 0x80:
+        return number, at + 1
     number = shift = 0
     while True:
         byte = data[at]
