@@ -610,7 +610,7 @@ class Descriptors(unittest.TestCase):
         for number in range(3 * few):
             self.assertEqual(protolink.Descriptor(pool._core, number).name, f"M{number}")
         known = pool._core.held._known[protolink.Descriptor]
-        self.assertLess(len(known.refs), 2 * few + 1)
+        self.assertLess(len(known.ones), 2 * few + 1)
         for number, message in enumerate(held):
             self.assertIs(protolink.Descriptor(pool._core, 3 * number), message)
 

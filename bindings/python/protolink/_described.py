@@ -165,13 +165,14 @@ class Described:
 
 def at_indexes(core: Core, cls: type[D], indexes: Iterable[int]) -> list[D]:
     """The descriptors of indexes."""
-    return core.held.whole(core, cls, indexes)
+    one = core.held.one
+    return [one(core, cls, index, 0) for index in indexes]
 
 
 def all_of(core: Core, cls: type[N], count: int) -> list[N]:
     """The first descriptors of a kind. What each is and its name are asked for at once."""
     told = core.parts(cls._parts, 0, count)
-    return _filled(core, core.held.whole(core, cls, range(count)), told)
+    return _filled(core, at_indexes(core, cls, range(count)), told)
 
 
 def parts_of(core: Core, cls: type[N], index: int, count: int) -> list[N]:

@@ -42,7 +42,7 @@ MOST_KEPT = 10_000
 PACKAGE: Found = (0, NONE, 0, NONE)
 """A package, of which there is no descriptor."""
 
-D = TypeVar("D")
+D = TypeVar("D", bound=Described)
 
 
 class Message(Protocol):
@@ -291,17 +291,18 @@ class Pool:
 
     def find(self, full_name: Name) -> Optional[Definition]:
         """What a full name means, which may have one leading dot, or None."""
-        told = self._looked_up(full_name, lambda: self._core.defined(name_bytes(full_name)))
+        told = self._core.defined(name_bytes(full_name))
+        if told is None and self._found(full_name) is not None:
+            told = self._core.defined(name_bytes(full_name))
         return None if told is None else Definition(KINDS[told[0]], *told[1:])
 
     def _found(self, full_name: Name) -> Optional[Found]:
-        return self._looked_up(full_name, lambda: self._core.found(name_bytes(full_name)))
-
-    def _looked_up(self, full_name: Name, look_up: Callable[[], Optional[D]]) -> Optional[D]:
-        """What a look-up of a name answers, where it is needed with the file of a database."""
-        found = look_up()
-        if found is None and self._load("FindFileContainingSymbol", _text(full_name).lstrip(".")):
-            found = look_up()
+        """What a name means, where it is needed with a file of the database."""
+        core = self._core
+        found = core.found(name_bytes(full_name))
+        if found is None and core.database is not None:
+            if self._load("FindFileContainingSymbol", _text(full_name).lstrip(".")):
+                found = core.found(name_bytes(full_name))
         return found
 
     def _load(self, call: str, *asked: object) -> bool:
@@ -356,7 +357,7 @@ class Pool:
             index = core.file_named(name_bytes(name))
         if index is None:
             raise KeyError(f"the pool has no file {name!r}")
-        made = FileDescriptor(core, index)
+        made = core.held.one(core, FileDescriptor, index, 0)
         if len(files) >= MOST_KEPT:
             files.clear()
         files[name] = made
@@ -367,7 +368,8 @@ class Pool:
         found = self._found(full_name)
         if found is None:
             raise KeyError(f"the pool has no {full_name!r}")
-        return FileDescriptor(self._core, found[3])
+        core = self._core
+        return core.held.one(core, FileDescriptor, found[3], 0)
 
     def message(self, full_name: Name) -> Descriptor:
         """The message with a full name, or a KeyError."""
@@ -483,7 +485,7 @@ class Pool:
         item = Item(place_of(kind, KINDS, "a kind"), index_of(index), index_of(position))
         return self._core.written(lib.full_name, item).decode()
 
-    def _named(self, full_name: Name, wanted: Callable[[Core, int, int], D]) -> D:
+    def _named(self, full_name: Name, wanted: type[D]) -> D:
         """The descriptor of what a name means, where it is of a kind."""
         core, known = self._core, self._kept
         kept = known.get((wanted, full_name))
@@ -493,7 +495,7 @@ class Pool:
         if CLASSES[kind] is not wanted:
             name = KINDS[CLASSES.index(cast(Any, wanted))].replace("_", " ")
             raise KeyError(f"the pool has no {name} {full_name!r}")
-        made = wanted(core, index, position)
+        made = core.held.one(core, wanted, index, position)
         if len(known) >= MOST_KEPT:
             known.clear()
         known[wanted, full_name] = made
