@@ -198,6 +198,55 @@ def tour() -> protolink.Pool:
     return pool
 
 
+class Record:
+    """A file as a database has it, as protobuf's package would."""
+
+    def __init__(self, pool: protolink.Pool, index: int) -> None:
+        file = pool.files()[index]
+        self.name = file.name
+        self.dependency = [it.name for it in file.dependencies]
+        self.SerializeToString = lambda: file.serialized_pb
+
+
+class Shelf:
+    """A database of the files of pools. It notes what it is asked."""
+
+    def __init__(
+        self,
+        pool: protolink.Pool,
+        extensions: dict[tuple[str, int], str] = {},
+        *others: protolink.Pool,
+    ) -> None:
+        pools, self.extensions, self.asked = (pool, *others), extensions, []
+        records = [Record(it, index) for it in pools for index in range(len(it))]
+        self.files = {record.name: record for record in records}
+        self.pools = pools
+
+    def FindFileByName(self, name: str) -> Record:
+        self.asked.append(name)
+        return self.files[name]
+
+    def FindFileContainingSymbol(self, name: str) -> Record:
+        self.asked.append(name)
+        return self.files[self.pools[0].file_of(name).name]
+
+    def FindFileContainingExtension(self, name: str, number: int) -> Record:
+        return self.files[self.extensions[name, number]]
+
+    def FindAllExtensionNumbers(self, name: str) -> list[int]:
+        return [number for of, number in self.extensions if of == name]
+
+
+def late() -> protolink.Pool:
+    """A file with one more extension of what tour() has."""
+    pool = tour()
+    pool.add_script(
+        "file late.proto\npackage late\nimport tour.proto\n"
+        "extend more 150 optional int32 ~ .tour.Outer\nend\n"
+    )
+    return pool
+
+
 WAIT = 60
 """How many seconds a thread may take that waits for nothing for ever."""
 
@@ -434,6 +483,43 @@ class Descriptors(unittest.TestCase):
         self.assertEqual(trip.location, wanted)
         self.assertEqual(stop.location, ((4, 1), (15, 0, 15), None, None, [" On its own.\n"]))
         self.assertIsNone(trip.field(4).location)
+        self.assertIs(trip.location, trip.location)
+
+    def test_of_several_locations_of_an_item_the_first_counts(self) -> None:
+        pool = protolink.Pool()
+        places = "at 4,0,1 8,8,8\nat 4,0 1,2,3\nat 4,0 4,5,6\nat 4,200 7,8,9,10\n"
+        messages = "".join(f"message M{n}\nend\n" for n in range(201))
+        pool.add_script(f"file a.proto\n{messages}{places}end\n")
+        first, last = pool.message("M0"), pool.message("M200")
+        self.assertEqual(first.location, ((4, 0), (1, 2, 3), None, None, []))
+        self.assertEqual(last.location, ((4, 200), (7, 8, 9, 10), None, None, []))
+        self.assertIsNone(pool.message("M199").location)
+
+    def test_locations_are_those_of_the_library(self) -> None:
+        pool = protolink.Pool()
+        pool.add_set(TRIPS)
+        lib, told = protolink._library.lib, 0
+        kinds = (pool.messages(), pool.enums(), pool.services())
+        items = [item for kind in kinds for item in kind]
+        items += [part for it in items for part in self.parts(it)]
+        for it in items:
+            item = protolink._library.Item(it._number, it._index, it._position)
+            span = it._core.integers(lib.span, item)
+            if span is None:
+                self.assertIsNone(it.location)
+                continue
+            leading = it._core.text(lib.leading_comments, item)
+            trailing = it._core.text(lib.trailing_comments, item)
+            detached = list(it._core.texts(lib.detached_comments, item))
+            self.assertEqual(it.location, (it.path, span, leading, trailing, detached))
+            told += 1
+        self.assertEqual(told, 4)
+
+    @staticmethod
+    def parts(item: object) -> list[object]:
+        """The fields, values or methods of an item."""
+        lists = (getattr(item, name, []) for name in ("fields", "values", "methods"))
+        return [part for parts in lists for part in parts]
 
     def test_records_are_bytes(self) -> None:
         pool = tour()
@@ -497,6 +583,67 @@ class Descriptors(unittest.TestCase):
         self.assertNotEqual(pool["tour.Outer"], pool["tour.Kind"])
         self.assertEqual(len({pool["tour.Outer"], pool["tour.Outer"], other["tour.Outer"]}), 2)
         self.assertIs(copy.deepcopy(pool["tour.Outer"]).pool, pool)
+
+    def test_a_descriptor_is_one_as_long_as_it_is_held(self) -> None:
+        pool = tour()
+        outer, service = pool.messages()[0], pool.service("tour.Shop")
+        self.assertIs(pool.message("tour.Outer"), outer)
+        self.assertIs(outer.fields[2].containing_type, outer)
+        self.assertIs(outer.fields[2].message_type.containing_type, outer)
+        self.assertIs(pool.field("tour.Outer.note"), outer.field_named("note"))
+        self.assertIs(service.methods[0].containing_service, service)
+        self.assertIs(service.methods[0], pool.method("tour.Shop.Get"))
+        self.assertIs(outer.file, pool.files()[0])
+        self.assertIs(outer.enum_types[0].values[1].type, outer.enum_types[0])
+        self.assertIsNot(tour().messages()[0], outer)
+
+    def test_a_descriptor_that_no_one_holds_is_not_kept(self) -> None:
+        pool = tour()
+        gone = weakref.ref(pool.messages()[0])
+        self.assertIsNone(gone())
+
+    def test_descriptors_that_no_one_holds_are_no_longer_noted(self) -> None:
+        pool, few = protolink.Pool(), protolink._held.FEW
+        messages = "".join(f"message M{n}\nend\n" for n in range(3 * few))
+        pool.add_script(f"file a.proto\n{messages}end\n")
+        held = [protolink.Descriptor(pool._core, n) for n in range(0, 3 * few, 3)]
+        for number in range(3 * few):
+            self.assertEqual(protolink.Descriptor(pool._core, number).name, f"M{number}")
+        known = pool._core.held._known[protolink.Descriptor]
+        self.assertLess(len(known.ones), 2 * few + 1)
+        for number, message in enumerate(held):
+            self.assertIs(protolink.Descriptor(pool._core, 3 * number), message)
+
+    def test_threads_that_ask_at_once_have_one_descriptor(self) -> None:
+        pool, made = tour(), []
+        interval = sys.getswitchinterval()
+        sys.setswitchinterval(1e-6)
+        try:
+            for _ in range(50):
+                begin = threading.Barrier(4)
+
+                def ask() -> None:
+                    begin.wait()
+                    made.append(protolink.FieldDescriptor(pool._core, 0, 3))
+
+                threads = [threading.Thread(target=ask) for _ in range(4)]
+                for thread in threads:
+                    thread.start()
+                for thread in threads:
+                    thread.join(WAIT)
+                self.assertEqual(len(set(map(id, made))), 1)
+                made.clear()
+        finally:
+            sys.setswitchinterval(interval)
+
+    def test_a_descriptor_is_not_changed(self) -> None:
+        outer = tour().message("tour.Outer")
+        for name in ("name", "fields", "has_options", "pool", "path"):
+            with self.assertRaisesRegex(AttributeError, name):
+                setattr(outer, name, None)
+            with self.assertRaisesRegex(AttributeError, name):
+                delattr(outer, name)
+        self.assertEqual(outer.name, "Outer")
 
     def test_descriptors_hold_when_files_are_added(self) -> None:
         pool = shop()
@@ -573,7 +720,7 @@ class Descriptors(unittest.TestCase):
     @staticmethod
     def answers(item: object) -> list[str]:
         """The properties of a descriptor, but those of which the pool is not asked: they are none,
-        or descriptors, which ask it then."""
+        or descriptors, which ask it then; and but the one that wants protobuf's package."""
         unasked = {
             protolink.FieldDescriptor: {"containing_type", "extension_scope"},
             protolink.ExtensionDescriptor: {"containing_oneof"},
@@ -582,7 +729,8 @@ class Descriptors(unittest.TestCase):
             protolink.MethodDescriptor: {"containing_service"},
         }.get(type(item), set())
         told = {name: it for class_ in type(item).__mro__ for name, it in vars(class_).items()}
-        return sorted({name for name in told if isinstance(told[name], property)} - unasked)
+        names = {name for name in told if isinstance(told[name], property)}
+        return sorted(names - unasked - {"_options_message"})
 
 
 class Pools(unittest.TestCase):
@@ -684,6 +832,47 @@ class Pools(unittest.TestCase):
         base, order = (apart.AddSerializedFile(file) for file in pool.linked_files())
         self.assertEqual((base.name, order.name), ("shop/base.proto", "shop/order.proto"))
         self.assertEqual(apart.AddSerializedFile(pool.linked_file(1)), base)
+
+    def test_another_file_of_a_known_name_is_a_type_error(self) -> None:
+        pool, other = shop(), protolink.Pool()
+        other.add_script("file shop/base.proto\npackage other\nend\n")
+        with self.assertRaises(TypeError) as refused:
+            pool.AddSerializedFile(other.linked_file(0))
+        (fault,) = refused.exception.faults
+        self.assertEqual((fault.code, fault.file), ("UnequalFile", "shop/base.proto"))
+        self.assertIn("the pool has another file 'shop/base.proto'", str(refused.exception))
+        self.assertEqual(pool.file("shop/base.proto").package, "shop")
+        for call, wrong in (
+            (pool.AddSerializedFile, b"\x0a\x05"),
+            (pool.add_script, FAULTY),
+            (pool.add_script, "nonsense"),
+        ):
+            with self.assertRaises(TypeError) as refused:
+                call(wrong)
+            self.assertIsInstance(refused.exception, protolink.Error)
+
+    def test_descriptors_are_added_to_their_own_pool(self) -> None:
+        pool, other = tour(), tour()
+        outer = pool.message("tour.Outer")
+        for name, descriptor, theirs in (
+            ("AddDescriptor", outer, other.message("tour.Outer")),
+            ("AddEnumDescriptor", pool.enum("tour.Kind"), other.enum("tour.Kind")),
+            ("AddServiceDescriptor", pool.service("tour.Shop"), other.service("tour.Shop")),
+            ("AddExtensionDescriptor", outer.extension(100), other.extension("tour.weight")),
+            ("AddFileDescriptor", outer.file, other.files()[0]),
+        ):
+            add = getattr(pool, name)
+            self.assertIsNone(add(descriptor))
+            with self.assertRaises(ValueError):
+                add(theirs)
+            for wrong in (0, None, pool.field("tour.Outer.note")):
+                with self.assertRaises(TypeError):
+                    add(wrong)
+
+    def test_an_empty_pool_is_true(self) -> None:
+        pool = protolink.Pool()
+        self.assertTrue(pool)
+        self.assertEqual(len(pool), 0)
 
     def test_several_files_are_one_batch(self) -> None:
         pool = shop()
@@ -787,6 +976,8 @@ class Pools(unittest.TestCase):
         blocks = re.findall(r"(?:^    .*\n|^\n)+", page, re.MULTILINE)
         code = [textwrap.dedent(block) for block in blocks if "protolink.Pool()" in block]
         self.assertTrue(code)
+        if descriptor_pb2 is None:
+            code = [block for block in code if "google.protobuf" not in block]
         with tempfile.TemporaryDirectory() as room:
             (Path(room) / "set.pb").write_bytes(shop().linked())
             for block in code:
@@ -1045,6 +1236,64 @@ class Pools(unittest.TestCase):
         told = "<protolink.Pool: files=0, messages=0, enums=0, services=0, extensions=0>"
         self.assertEqual(repr(protolink.Pool()), told)
 
+    def test_what_a_pool_lacks_is_found_in_its_database(self) -> None:
+        for ask, name in (
+            (lambda pool: pool.FindMessageTypeByName("shop.Order").name, "Order"),
+            (lambda pool: pool.FindFieldByName("shop.Order.status").enum_type.name, "Status"),
+            (lambda pool: pool.FindFileByName("shop/order.proto").name, "shop/order.proto"),
+            (lambda pool: pool.FindFileContainingSymbol("shop.UNKNOWN").name, "shop/base.proto"),
+            (lambda pool: pool.find(".shop.Order").kind, "message"),
+            (lambda pool: pool[b"shop.Order"].name, "Order"),
+            (lambda pool: "shop.Order" in pool, True),
+        ):
+            database = Shelf(shop())
+            pool = protolink.Pool(descriptor_db=database)
+            self.assertEqual(len(pool), 0)
+            self.assertEqual(ask(pool), name)
+            asked = list(database.asked)
+            self.assertEqual(ask(pool), name)
+            self.assertEqual(database.asked, asked)
+            for missing in (pool.message, pool.file, pool.file_of, pool.__getitem__):
+                with self.assertRaises(KeyError):
+                    missing("shop.None")
+            self.assertNotIn("shop.None", pool)
+        self.assertTrue(pool.clone().message("shop.Order"))
+        pool.close()
+        self.assertEqual(pool.message("shop.Order").name, "Order")
+
+    def test_extensions_are_found_in_a_database(self) -> None:
+        pool = protolink.Pool(Shelf(tour(), {("tour.Outer", 7): "late.proto"}, late()))
+        outer = pool.message("tour.Outer")
+        self.assertEqual(len(pool), 1)
+        self.assertEqual(len(pool.FindAllExtensions(outer)), 3)
+        self.assertEqual(len(pool), 2)
+        pool = protolink.Pool(Shelf(tour(), {("tour.Outer", 150): "late.proto"}, late()))
+        outer = pool.message("tour.Outer")
+        self.assertEqual(pool.FindExtensionByNumber(outer, 150).full_name, "late.more")
+        with self.assertRaises(KeyError):
+            pool.FindExtensionByNumber(outer, 151)
+
+    def test_a_file_of_a_database_that_is_refused_is_a_key_error(self) -> None:
+        database = Shelf(shop())
+        del database.files["shop/base.proto"]
+        pool = protolink.Pool(database)
+        with self.assertRaisesRegex(KeyError, "shop/base.proto"):
+            pool.message("shop.Order")
+        self.assertNotIn("shop.Order", pool)
+        self.assertEqual(len(pool), 0)
+
+    def test_a_database_may_have_files_by_name_alone(self) -> None:
+        class Files:
+            def __init__(self) -> None:
+                self.FindFileByName = Shelf(shop()).FindFileByName
+
+        pool = protolink.Pool(Files())
+        with self.assertRaises(KeyError):
+            pool.message("shop.Order")
+        self.assertEqual(pool.file("shop/order.proto").name, "shop/order.proto")
+        self.assertEqual(pool.message("shop.Order").name, "Order")
+        self.assertEqual(pool.FindAllExtensions(pool.message("shop.Order")), [])
+
     def test_kinds_of_items(self) -> None:
         pool = shop()
         for kind in protolink.KINDS[1:]:
@@ -1090,8 +1339,19 @@ class Pools(unittest.TestCase):
                 with self.assertRaises(TypeError):
                     find(wrong)
         for wrong in ((), (1, 2, 3), (1, 2, 3, 4, 5), ("1", 2, 3, 4)):
-            with self.assertRaises(TypeError):
-                made.finders(*wrong)
+            for call in (made.finders, made.teller, made.texter, made.lister):
+                with self.assertRaises(TypeError):
+                    call(*wrong)
+        with self.assertRaises(ValueError):
+            made.teller(1, 1, "I" * 100)
+        core, told = pool._core, protolink._told
+        parts = protolink.FieldDescriptor._parts
+        for ask, least in ((told.MESSAGE.info, 3), (told.NAME, 4), (parts, 3)):
+            for wrong in ((), (core._pointer,), (core._pointer, "1", 2, 3)[:least]):
+                with self.assertRaises(TypeError):
+                    ask(*wrong)
+            with self.assertRaises(OverflowError):
+                ask(core._pointer, *[-1] * (least - 1))
 
     def test_the_version_is_told(self) -> None:
         self.assertRegex(protolink.version(), r"^\d+\.\d+\.\d+$")
@@ -1600,6 +1860,54 @@ class Protobuf(unittest.TestCase):
             ours.CopyToProto(copied)
             self.assertEqual(copied, proto)
             self.assertEqual(type(proto).FromString(ours.serialized_pb), proto)
+
+    def test_a_record_is_copied_to_one_of_its_kind_alone(self) -> None:
+        pool = protolink.Pool()
+        pool.add_set(TRIPS)
+        for ours, wrong in (
+            (pool.message("tour.Trip"), descriptor_pb2.FileDescriptorProto()),
+            (pool.file("tour.proto"), descriptor_pb2.DescriptorProto()),
+            (pool.field("tour.Trip.stops"), descriptor_pb2.DescriptorProto()),
+        ):
+            with self.assertRaisesRegex(TypeError, "is copied to a"):
+                ours.CopyToProto(wrong)
+
+    def test_options_are_kept(self) -> None:
+        pool = protolink.Pool()
+        pool.add_set(TRIPS)
+        for item in (pool.message("tour.Trip"), pool.file("tour.proto")):
+            self.assertIs(item.GetOptions(), item.GetOptions())
+        self.assertTrue(pool.message("tour.Trip").GetOptions().deprecated)
+
+    def test_message_classes_are_made_of_protobufs_own_pool(self) -> None:
+        from google.protobuf import message_factory
+
+        pool = shop()
+        theirs = pool.to_protobuf()
+        self.assertIs(pool.to_protobuf(), theirs)
+        order = theirs.FindMessageTypeByName("shop.Order")
+        make = getattr(message_factory, "GetMessageClass", None)
+        class_ = make(order) if make else message_factory.MessageFactory(theirs).GetPrototype(order)
+        self.assertEqual(class_.FromString(class_(id=7).SerializeToString()).id, 7)
+        with self.assertRaises(KeyError):
+            theirs.FindMessageTypeByName("tour.Outer")
+        pool.add_script(TOUR)
+        self.assertIs(pool.to_protobuf(), theirs)
+        self.assertEqual(theirs.FindMessageTypeByName("tour.Outer").name, "Outer")
+        pool.close()
+        self.assertIsNot(pool.to_protobuf(), theirs)
+
+    def test_a_database_of_protobuf_is_one(self) -> None:
+        from google.protobuf import descriptor_database
+
+        database = descriptor_database.DescriptorDatabase()
+        for file in descriptor_pb2.FileDescriptorSet.FromString(shop().linked()).file:
+            database.Add(file)
+        pool = protolink.Pool(database)
+        self.assertEqual(pool.FindFieldByName("shop.Order.status").enum_type.name, "Status")
+        with self.assertRaises(KeyError):
+            pool.FindFileByName("none.proto")
+        self.assertEqual(pool.FindAllExtensions(pool.message("shop.Order")), [])
 
     def test_sets_from_disk(self) -> None:
         folder = os.environ.get("PROTOLINK_SETS")

@@ -77,8 +77,10 @@ def bytes_of(data: Any, what: str) -> bytes:
     raise wrong(data, f"a {what} is bytes, a path or a message of protobuf", hint)
 
 
-def copy_to(proto: Any, record: bytes) -> None:
-    """Copies a record to a message of protobuf's package."""
-    if not hasattr(proto, "ParseFromString"):
-        raise wrong(proto, "a record is copied to a message of protobuf")
+def copy_to(proto: Any, name: str, record: bytes) -> None:
+    """Copies a record to a message of protobuf's package, which is to be one of descriptor.proto
+    with a name."""
+    described = getattr(type(proto), "DESCRIPTOR", None)
+    if getattr(described, "full_name", None) != f"google.protobuf.{name}":
+        raise wrong(proto, f"the record is copied to a {name} of protobuf's package")
     proto.ParseFromString(record)

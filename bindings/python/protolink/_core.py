@@ -18,25 +18,20 @@ from ._library import (
     REFUSED,
     SHORT,
     TOO_MANY,
-    EnumInfo,
-    ExtensionInfo,
-    MessageInfo,
-    Range,
     RawAdded,
     RawCounts,
     RawPool,
-    ServiceInfo,
     lib,
 )
+from ._held import Held
+from ._locations import Locations
 from ._names import FIRST_PATH, Defined, Found, Names
+from ._told import ENUM, EXTENSION, FIRST_ROOM, MESSAGE, SERVICE, Parts, Teller, Told, pointer
 from ._turns import Turns
 from .faults import Refused, TooMany, Unreadable, fault_of
 
 if TYPE_CHECKING:
     from .pool import Pool
-
-FIRST_ROOM = 256
-"""How long a text may be that is had by one call."""
 
 FIRST_LONG_ROOM = 16384
 """The same of what each call makes anew: linked files, and the text of changes."""
@@ -63,6 +58,7 @@ class Core:
         self._view = RawPool()
         """A copy of its pointer, for look-ups; none while the pool changes."""
         self._at = ctypes.byref(self._view)
+        self._pointer = pointer(self._view)
         self._names = Names(self._view)
         self._turns = Turns()
         self._calm: Optional[object] = object()
@@ -73,6 +69,11 @@ class Core:
         self._linked_len = 0
         """About how long the linked files are."""
         self._below: dict[str, Below] = {}
+        self._locations: dict[int, Locations] = {}
+        self.held = Held()
+        """Its descriptors."""
+        self.database: Any = None
+        """Where files are found that the pool does not have, or None."""
         self.owner: Optional[weakref.ReferenceType[Pool]] = None
         _CORES.add(weakref.ref(self, _CORES.discard))
 
@@ -87,6 +88,15 @@ class Core:
         if calm is not None and self._calm is calm:
             return status
         return self._in_turn(lambda view: call(ctypes.byref(view), *told))
+
+    def asked(self, look_up: Callable[..., Optional[I]], *told: int) -> Optional[I]:
+        """What a look-up of `_told` answers."""
+        calm = self._calm
+        answer = look_up(self._pointer, *told)
+        # an empty pool has no items
+        if answer is not None or (calm is not None and self._calm is calm):
+            return answer
+        return self._in_turn(lambda view: look_up(pointer(view), *told))
 
     def _in_turn(self, look_up: Callable[[RawPool], I]) -> I:
         """Looks up when no other thread changes the pool."""
@@ -138,16 +148,23 @@ class Core:
         def clear(pool: object) -> None:
             self.gone = CLOSED
             lib.pool_clear(pool)
-            self._below = {}
+            self._forget()
 
         self._change(clear)
+
+    def _forget(self) -> None:
+        """Keeps nothing that was asked of the pool, as it is gone."""
+        self._below, self._locations = {}, {}
+        self.held.forget()
 
     def after_fork(self) -> None:
         """Goes on in the child of a fork, which has none of the other threads. What one of them was
         changing is lost, and its memory is not freed."""
+        self.held.after_fork()
         if self._turns.end_others():
             self.gone = LOST
             self._calm = self._view.at = self._pool.at = None
+            self._forget()
             owner = None if self.owner is None else self.owner()
             if owner is not None:
                 owner._forget()
@@ -191,7 +208,7 @@ class Core:
         if self.read_long(lib.pool_clone, copy._pool) != DONE:
             raise MemoryError
         copy._show()
-        copy._linked_len = self._linked_len
+        copy._linked_len, copy.database = self._linked_len, self.database
         return copy
 
     def counts(self) -> RawCounts:
@@ -294,11 +311,23 @@ class Core:
                 return tuple(numbers[: length.value]) if status == DONE else None
             room = length.value
 
-    def told(self, call: Callable[..., int], info: I, *numbers: int) -> I:
-        """What a call tells of an item."""
-        if self.read(call, *numbers, info) != DONE:
+    def members(self, teller: Teller, index: int, position: int = 0) -> tuple[int, ...]:
+        """What an item is."""
+        members = self.asked(teller.info, index, position)
+        if members is None:
             raise LookupError("the pool does not have it any more")
-        return info
+        return members
+
+    def told(self, teller: Teller, index: int, position: int = 0) -> Any:
+        """The same by names."""
+        return teller.named(self.members(teller, index, position))
+
+    def parts(self, parts: Parts, index: int, count: int) -> Told:
+        """The first parts of an item: their names, and what they are."""
+        told = self.asked(parts, index, count) if count else []
+        if told is None:
+            raise LookupError("the pool does not have them any more")
+        return told
 
     def number(self, call: Callable[..., int], *before: object) -> Optional[int]:
         """The number that a call answers, or None."""
@@ -318,19 +347,28 @@ class Core:
             yield number
             position += 1
 
-    def ranges(self, call: Callable[..., int], index: int, count: int) -> list[tuple[int, int]]:
+    def ranges(self, teller: Teller, index: int, count: int) -> list[tuple[int, int]]:
         """The ranges of numbers that a call tells by position."""
-        ranges = [self.told(call, Range(), index, position) for position in range(count)]
+        ranges = [self.told(teller, index, position) for position in range(count)]
         return [(it.start, it.end) for it in ranges]
+
+    def locations(self, file: int) -> Locations:
+        """Where things stand in the source of a file. All of a file are read once."""
+        kept = self._locations.get(file)
+        if kept is not None:
+            return kept
+        made = Locations(self.linked_file(file))
+        self.check()
+        return self._locations.setdefault(file, made)
 
     def below(self, kind: str, file: int, message: int = NONE) -> list[int]:
         """The indexes of what is declared in a file and in no message, or right in a message. All of
         a kind are asked once, and then those that were added. Of two threads that ask at once both
         may note an index."""
-        call, make, count = BELOW[kind]
+        teller, count = BELOW[kind]
         lists = self._below.setdefault(kind, Below())
         for index in range(lists.seen, getattr(self.counts(), count)):
-            info: Any = self.told(call, make(), index)
+            info = self.told(teller, index)
             place = (info.file, getattr(info, "parent", NONE))
             lists.indexes.setdefault(place, {})[index] = None
             lists.seen = index + 1
@@ -346,11 +384,11 @@ class Below:
         self.indexes: dict[tuple[int, int], dict[int, None]] = {}
 
 
-BELOW: dict[str, tuple[Callable[..., int], type, str]] = {
-    "message": (lib.message, MessageInfo, "messages"),
-    "enum": (lib.enum, EnumInfo, "enums"),
-    "service": (lib.service, ServiceInfo, "services"),
-    "extension": (lib.extension, ExtensionInfo, "extensions"),
+BELOW = {
+    "message": (MESSAGE, "messages"),
+    "enum": (ENUM, "enums"),
+    "service": (SERVICE, "services"),
+    "extension": (EXTENSION, "extensions"),
 }
 
 
@@ -359,6 +397,9 @@ class CoreInTurn(Core):
 
     def read(self, call: Callable[..., int], *told: object) -> int:
         return self._in_turn(lambda view: call(ctypes.byref(view), *told))
+
+    def asked(self, look_up: Callable[..., Optional[I]], *told: int) -> Optional[I]:
+        return self._in_turn(lambda view: look_up(pointer(view), *told))
 
     def found(self, name: bytes) -> Optional[Found]:
         return self._in_turn(lambda view: Names(view).found(name))

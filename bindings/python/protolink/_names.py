@@ -52,11 +52,11 @@ class Names:
             self.defined = _defined_by_ctypes(pool, self.found)
         else:
             calls = (lib.pool_find, lib.pool_find_path, lib.file_by_name)
-            made = finding.finders(*map(_address, calls), ctypes.addressof(pool))
+            made = finding.finders(*map(address, calls), ctypes.addressof(pool))
             self.found, self.defined, self.file = made
 
 
-def _address(call: Any) -> Optional[int]:
+def address(call: Any) -> Optional[int]:
     """Where a call of the library stands."""
     return ctypes.cast(call, ctypes.c_void_p).value
 
@@ -66,7 +66,7 @@ def _address(call: Any) -> Optional[int]:
 
 def _prepared(call: Any) -> Any:
     """A call of the library that takes bytes, and what `byref` and `from_param` make, unread."""
-    made = type(call)(_address(call))
+    made = type(call)(address(call))
     made.restype = call.restype
     return made
 

@@ -7,33 +7,36 @@ from __future__ import annotations
 
 import ctypes
 from collections.abc import Callable
-from importlib import import_module
-from typing import TYPE_CHECKING, Any, ClassVar, NamedTuple, Optional, TypeVar, Union
+from typing import TYPE_CHECKING, Any, Optional, Union
 
-from ._asked import Name, copy_to, name_bytes, number_of, only
+from ._asked import Name, name_bytes, number_of, only
 from ._cached import cached_property
-from ._library import (
-    KINDS,
-    NONE,
-    EnumInfo,
-    EnumValueInfo,
-    ExtensionInfo,
-    FieldInfo,
-    FileInfo,
-    Item,
-    MessageInfo,
-    MethodInfo,
-    OneofInfo,
-    ServiceInfo,
-    lib,
+from ._described import Deprecated, Described, Named, at_indexes, by_name, parts_of
+from ._library import NONE, lib
+from ._locations import Location
+from ._records import public_dependencies
+from ._told import (
+    DEFAULT,
+    ENUM,
+    ENUM_RESERVED_RANGE,
+    ENUM_VALUE,
+    EXTENSION,
+    EXTENSION_RANGE,
+    FIELD,
+    FILE,
+    JSON_NAME,
+    MESSAGE,
+    METHOD,
+    ONEOF,
+    RESERVED_RANGE,
+    SERVICE,
 )
-from ._records import public_dependencies, record_at
 
 if TYPE_CHECKING:
     from ._core import Core
-    from .pool import Pool
 
 __all__ = [
+    "CLASSES",
     "Descriptor",
     "EnumDescriptor",
     "EnumValueDescriptor",
@@ -49,33 +52,6 @@ __all__ = [
 Default = Union[None, bool, int, float, str, bytes, list[Any]]
 """The default value of a field."""
 
-N = TypeVar("N", bound="_Named")
-
-
-class Location(NamedTuple):
-    """Where something stands in its source, and the comments there, as SourceCodeInfo.Location of
-    descriptor.proto has them: the path in the record of the file; the line and the column at which
-    it begins, the line in which it ends, and the column behind its end, all from 0, where the
-    second line is left out if it ends in its first; the comment right before it, the one right
-    behind it, and those before it that stand by themselves."""
-
-    path: tuple[int, ...]
-    span: tuple[int, ...]
-    leading_comments: Optional[str]
-    trailing_comments: Optional[str]
-    leading_detached_comments: list[str]
-
-
-def _descriptor_pb2() -> Any:
-    """The records of protobuf's package."""
-    try:
-        return import_module("google.protobuf.descriptor_pb2")
-    except ImportError as fault:
-        raise ImportError(f"{fault}: this wants protobuf's package") from fault
-
-
-def _by_name(items: list[N]) -> dict[str, N]:
-    return {item.name: item for item in items}
 
 
 def _camel_case(name: str) -> str:
@@ -84,129 +60,12 @@ def _camel_case(name: str) -> str:
     return first + "".join(other[:1].upper() + other[1:] for other in others)
 
 
-class _Described:
-    """What a pool has at an index, or at a position of what has the index."""
-
-    def __init__(self, core: Core, index: int, position: int = 0) -> None:
-        self._core = core
-        self._index = index
-        self._position = position
-        self._kept: dict[str, Any] = {}
-
-    @property
-    def pool(self) -> Pool:
-        """The pool that has it."""
-        from .pool import pool_of  # which names this module
-
-        self._core.check()
-        return pool_of(self._core)
-
-    def _key(self) -> tuple[int, int, int]:
-        return id(self._core), self._index, self._position
-
-    def __eq__(self, other: object) -> bool:
-        if not isinstance(other, _Described) or type(self) is not type(other):
-            return NotImplemented
-        return self._key() == other._key()
-
-    def __hash__(self) -> int:
-        return hash((type(self), self._key()))
-
-    def _told(self) -> str:
-        """The name by which it is printed."""
-        raise NotImplementedError
-
-    def __repr__(self) -> str:
-        told = "of no pool any more" if self._core.gone else repr(self._told())
-        return f"<protolink.{type(self).__name__} {told}>"
-
-    def __copy__(self: D) -> D:
-        return self
-
-    def __deepcopy__(self: D, memo: dict[int, Any]) -> D:
-        return self
-
-
-D = TypeVar("D", bound=_Described)
-
-
-class _Named(_Described):
-    """What has a name in a scope."""
-
-    _kind: ClassVar[str]
-    _options: ClassVar[str]
-
-    @cached_property
-    def _item(self) -> Item:
-        return Item(KINDS.index(self._kind), self._index, self._position)
-
-    @cached_property
-    def name(self) -> str:
-        """Its name, without the scope."""
-        return self._core.written(lib.name, self._item).decode()
-
-    @cached_property
-    def full_name(self) -> str:
-        """Its full name, without a leading dot."""
-        return self._core.written(lib.full_name, self._item).decode()
-
-    @cached_property
-    def path(self) -> tuple[int, ...]:
-        """Where it is declared in the record of its file: numbers of fields, and positions from
-        0."""
-        return self._core.integers(lib.path, self._item) or ()
-
-    @property
-    def location(self) -> Optional[Location]:
-        """Where it stands in its source, with its comments, or None where its file does not tell
-        it, as it does by `--include_source_info` of protoc."""
-        span = self._core.integers(lib.span, self._item)
-        if span is None:
-            return None
-        detached = self._core.texts(lib.detached_comments, self._item)
-        leading = self._core.text(lib.leading_comments, self._item)
-        trailing = self._core.text(lib.trailing_comments, self._item)
-        return Location(self.path, span, leading, trailing, list(detached))
-
-    @property
-    def options(self) -> bytes:
-        """Its options, as the bytes of their message of descriptor.proto, also those that the
-        library does not read. Where it has none, there are no bytes."""
-        return self._core.written(lib.options, self._item)
-
-    @property
-    def has_options(self) -> bool:
-        """Whether it has options."""
-        return bool(self.options)
-
-    def GetOptions(self) -> Any:
-        """Its options, as a message of protobuf's package."""
-        return getattr(_descriptor_pb2(), self._options).FromString(self.options)
-
-    @property
-    def serialized_pb(self) -> bytes:
-        """Its linked record, as the bytes of its message of descriptor.proto."""
-        return record_at(self.file.serialized_pb, self.path)
-
-    def CopyToProto(self, proto: Any) -> None:
-        """Copies its linked record to one of protobuf's package."""
-        copy_to(proto, self.serialized_pb)
-
-    @property
-    def file(self) -> FileDescriptor:
-        """The file that declares it."""
-        raise NotImplementedError
-
-    def _told(self) -> str:
-        return self.full_name
-
-
-class FileDescriptor(_Described):
+class FileDescriptor(Described):
     """A file of a pool."""
 
-    @cached_property
-    def _info(self) -> FileInfo:
-        return self._core.told(lib.file, FileInfo(), self._index)
+    _teller = FILE
+    _options = "FileOptions"
+    _record = "FileDescriptorProto"
 
     def _told(self) -> str:
         return self.name
@@ -240,7 +99,7 @@ class FileDescriptor(_Described):
     def dependencies(self) -> list[FileDescriptor]:
         """The files that it imports, in the order of its imports."""
         imported = self._core.numbers(lib.file_import, self._index)
-        return [FileDescriptor(self._core, index) for index in imported]
+        return at_indexes(self._core, FileDescriptor, imported)
 
     @property
     def public_dependencies(self) -> list[FileDescriptor]:
@@ -259,77 +118,51 @@ class FileDescriptor(_Described):
         Where it has none, there are no bytes."""
         return self._core.written(lib.file_options, self._index)
 
-    @property
-    def has_options(self) -> bool:
-        """Whether it has options."""
-        return bool(self.options)
-
-    def GetOptions(self) -> Any:
-        """Its options, as a FileOptions of protobuf's package."""
-        return _descriptor_pb2().FileOptions.FromString(self.options)
-
     @cached_property
     def message_types(self) -> list[Descriptor]:
         """The messages that are declared in it and in no message."""
-        return [Descriptor(self._core, it) for it in self._core.below("message", self._index)]
+        return at_indexes(self._core, Descriptor, self._core.below("message", self._index))
 
     @cached_property
     def enum_types(self) -> list[EnumDescriptor]:
         """The enums that are declared in it and in no message."""
-        return [EnumDescriptor(self._core, it) for it in self._core.below("enum", self._index)]
+        return at_indexes(self._core, EnumDescriptor, self._core.below("enum", self._index))
 
     @cached_property
     def extensions(self) -> list[ExtensionDescriptor]:
         """The extensions that are declared in it and in no message."""
         indexes = self._core.below("extension", self._index)
-        return [ExtensionDescriptor(self._core, index) for index in indexes]
+        return at_indexes(self._core, ExtensionDescriptor, indexes)
 
     @cached_property
     def services(self) -> list[ServiceDescriptor]:
         """The services that are declared in it."""
-        return [ServiceDescriptor(self._core, it) for it in self._core.below("service", self._index)]
+        return at_indexes(self._core, ServiceDescriptor, self._core.below("service", self._index))
 
     @cached_property
     def message_types_by_name(self) -> dict[str, Descriptor]:
-        return _by_name(self.message_types)
+        return by_name(self.message_types)
 
     @cached_property
     def enum_types_by_name(self) -> dict[str, EnumDescriptor]:
-        return _by_name(self.enum_types)
+        return by_name(self.enum_types)
 
     @cached_property
     def extensions_by_name(self) -> dict[str, ExtensionDescriptor]:
-        return _by_name(self.extensions)
+        return by_name(self.extensions)
 
     @cached_property
     def services_by_name(self) -> dict[str, ServiceDescriptor]:
-        return _by_name(self.services)
-
-    def CopyToProto(self, proto: Any) -> None:
-        """Copies the linked file to a FileDescriptorProto of protobuf's package."""
-        copy_to(proto, self.serialized_pb)
+        return by_name(self.services)
 
 
-class _Deprecated(_Named):
-    """What may be deprecated."""
-
-    _info: Any
-
-    @property
-    def is_deprecated(self) -> bool:
-        """Whether its options say so."""
-        return bool(self._info.is_deprecated)
-
-
-class Descriptor(_Deprecated):
+class Descriptor(Deprecated):
     """A message of a pool."""
 
+    _teller = MESSAGE
     _kind = "message"
     _options = "MessageOptions"
-
-    @cached_property
-    def _info(self) -> MessageInfo:
-        return self._core.told(lib.message, MessageInfo(), self._index)
+    _record = "DescriptorProto"
 
     @property
     def file(self) -> FileDescriptor:
@@ -349,12 +182,11 @@ class Descriptor(_Deprecated):
     @cached_property
     def fields(self) -> list[FieldDescriptor]:
         """Its fields, in the order of declaration."""
-        count = self._info.fields
-        return [FieldDescriptor(self._core, self._index, at) for at in range(count)]
+        return parts_of(self._core, FieldDescriptor, self._index, self._info.fields)
 
     @cached_property
     def fields_by_name(self) -> dict[str, FieldDescriptor]:
-        return _by_name(self.fields)
+        return by_name(self.fields)
 
     @cached_property
     def fields_by_number(self) -> dict[int, FieldDescriptor]:
@@ -367,12 +199,11 @@ class Descriptor(_Deprecated):
     @cached_property
     def oneofs(self) -> list[OneofDescriptor]:
         """Its oneofs, in the order of declaration, those of optional fields of proto3 too."""
-        count = self._info.oneofs
-        return [OneofDescriptor(self._core, self._index, at) for at in range(count)]
+        return parts_of(self._core, OneofDescriptor, self._index, self._info.oneofs)
 
     @cached_property
     def oneofs_by_name(self) -> dict[str, OneofDescriptor]:
-        return _by_name(self.oneofs)
+        return by_name(self.oneofs)
 
     def _below(self, kind: str) -> list[int]:
         return self._core.below(kind, self._info.file, self._index)
@@ -380,20 +211,20 @@ class Descriptor(_Deprecated):
     @cached_property
     def nested_types(self) -> list[Descriptor]:
         """The messages that are declared in it."""
-        return [Descriptor(self._core, index) for index in self._below("message")]
+        return at_indexes(self._core, Descriptor, self._below("message"))
 
     @cached_property
     def nested_types_by_name(self) -> dict[str, Descriptor]:
-        return _by_name(self.nested_types)
+        return by_name(self.nested_types)
 
     @cached_property
     def enum_types(self) -> list[EnumDescriptor]:
         """The enums that are declared in it."""
-        return [EnumDescriptor(self._core, index) for index in self._below("enum")]
+        return at_indexes(self._core, EnumDescriptor, self._below("enum"))
 
     @cached_property
     def enum_types_by_name(self) -> dict[str, EnumDescriptor]:
-        return _by_name(self.enum_types)
+        return by_name(self.enum_types)
 
     @cached_property
     def enum_values_by_name(self) -> dict[str, EnumValueDescriptor]:
@@ -403,17 +234,17 @@ class Descriptor(_Deprecated):
     @cached_property
     def extensions(self) -> list[ExtensionDescriptor]:
         """The extensions that are declared in it, whatever they extend."""
-        return [ExtensionDescriptor(self._core, index) for index in self._below("extension")]
+        return at_indexes(self._core, ExtensionDescriptor, self._below("extension"))
 
     @cached_property
     def extensions_by_name(self) -> dict[str, ExtensionDescriptor]:
-        return _by_name(self.extensions)
+        return by_name(self.extensions)
 
     @property
     def all_extensions(self) -> list[ExtensionDescriptor]:
         """The extensions of the pool that extend it, in the order of linking."""
         indexes = self._core.numbers(lib.message_extension, self._index)
-        return [ExtensionDescriptor(self._core, index) for index in indexes]
+        return at_indexes(self._core, ExtensionDescriptor, indexes)
 
     @property
     def is_map_entry(self) -> bool:
@@ -448,14 +279,14 @@ class Descriptor(_Deprecated):
         """The ranges of numbers that it leaves to extensions, each with its first number and the
         one behind its last."""
         count = self._info.extension_ranges
-        return self._core.ranges(lib.message_extension_range, self._index, count)
+        return self._core.ranges(EXTENSION_RANGE, self._index, count)
 
     @property
     def reserved_ranges(self) -> list[tuple[int, int]]:
         """The ranges of numbers that it reserves, each with its first number and the one behind its
         last."""
         count = self._info.reserved_ranges
-        return self._core.ranges(lib.message_reserved_range, self._index, count)
+        return self._core.ranges(RESERVED_RANGE, self._index, count)
 
     @property
     def reserved_names(self) -> list[str]:
@@ -511,11 +342,14 @@ def _message_or_none(core: Core, index: int) -> Optional[Descriptor]:
     return None if index == NONE else Descriptor(core, index)
 
 
-class FieldDescriptor(_Deprecated):
+class FieldDescriptor(Deprecated):
     """A field of a message, or an extension."""
 
+    _teller = FIELD
+    _NUMBER, _TYPE, _LABEL = FIELD.places("number", "kind", "cardinality")
     _kind = "field"
     _options = "FieldOptions"
+    _record = "FieldDescriptorProto"
 
     is_extension = False
     """Whether it is an extension."""
@@ -528,10 +362,6 @@ class FieldDescriptor(_Deprecated):
     CPPTYPE_DOUBLE, CPPTYPE_FLOAT, CPPTYPE_BOOL, CPPTYPE_ENUM = range(5, 9)
     CPPTYPE_STRING, CPPTYPE_MESSAGE = range(9, 11)
     LABEL_OPTIONAL, LABEL_REQUIRED, LABEL_REPEATED = range(1, 4)
-
-    @cached_property
-    def _info(self) -> Any:
-        return self._core.told(lib.field, FieldInfo(), self._index, self._position)
 
     @cached_property
     def index(self) -> int:
@@ -556,12 +386,12 @@ class FieldDescriptor(_Deprecated):
     @property
     def number(self) -> int:
         """Its number."""
-        return int(self._info.number)
+        return self._members[self._NUMBER]
 
     @property
     def type(self) -> int:
         """Its type, as one of `TYPE_DOUBLE` to `TYPE_SINT64`."""
-        return int(self._info.kind)
+        return self._members[self._TYPE]
 
     @property
     def cpp_type(self) -> int:
@@ -571,7 +401,7 @@ class FieldDescriptor(_Deprecated):
     @property
     def label(self) -> int:
         """How often it stands in a message, as one of `LABEL_OPTIONAL` to `LABEL_REPEATED`."""
-        return int(self._info.cardinality)
+        return self._members[self._LABEL]
 
     @property
     def is_packed(self) -> bool:
@@ -632,10 +462,8 @@ class FieldDescriptor(_Deprecated):
     def json_name(self) -> str:
         """Its JSON name: that which was given, as `protoc` gives it to all, else its name in camel
         case."""
-        try:
-            return self._core.written(lib.json_name, self._item).decode()
-        except IndexError:
-            return _camel_case(self.name)
+        told = self._told_text(JSON_NAME)
+        return _camel_case(self.name) if told is None else told.decode()
 
     @property
     def camelcase_name(self) -> str:
@@ -656,7 +484,7 @@ class FieldDescriptor(_Deprecated):
         if self.label == self.LABEL_REPEATED:
             return []
         if self.has_default_value:
-            return _told_value(self.type, self._core.written(lib.default, self._item))
+            return _told_value(self.type, self._told_text(DEFAULT) or b"")
         enum = self.enum_type
         return enum.values[0].number if enum is not None else _ZEROS[self.cpp_type](self.type)
 
@@ -664,12 +492,10 @@ class FieldDescriptor(_Deprecated):
 class ExtensionDescriptor(FieldDescriptor):
     """An extension of a pool: a field of a message that is not declared in it."""
 
+    _teller = EXTENSION
+    _NUMBER, _TYPE, _LABEL = EXTENSION.places("number", "kind", "cardinality")
     _kind = "extension"
     is_extension = True
-
-    @cached_property
-    def _info(self) -> Any:
-        return self._core.told(lib.extension, ExtensionInfo(), self._index)
 
     @property
     def containing_type(self) -> Descriptor:
@@ -755,15 +581,13 @@ def _told_float(type_: int, told: bytes) -> float:
         return float("nan")
 
 
-class OneofDescriptor(_Named):
+class OneofDescriptor(Named):
     """A oneof of a message."""
 
+    _teller = ONEOF
     _kind = "oneof"
     _options = "OneofOptions"
-
-    @cached_property
-    def _info(self) -> OneofInfo:
-        return self._core.told(lib.oneof, OneofInfo(), self._index, self._position)
+    _record = "OneofDescriptorProto"
 
     @cached_property
     def index(self) -> int:
@@ -792,15 +616,13 @@ class OneofDescriptor(_Named):
         return [FieldDescriptor(self._core, self._index, position) for position in positions]
 
 
-class EnumDescriptor(_Deprecated):
+class EnumDescriptor(Deprecated):
     """An enum of a pool."""
 
+    _teller = ENUM
     _kind = "enum"
     _options = "EnumOptions"
-
-    @cached_property
-    def _info(self) -> EnumInfo:
-        return self._core.told(lib.enum, EnumInfo(), self._index)
+    _record = "EnumDescriptorProto"
 
     @property
     def file(self) -> FileDescriptor:
@@ -821,7 +643,7 @@ class EnumDescriptor(_Deprecated):
     def reserved_ranges(self) -> list[tuple[int, int]]:
         """The ranges of numbers that it reserves, each with its first and its last number."""
         count = self._info.reserved_ranges
-        return self._core.ranges(lib.enum_reserved_range, self._index, count)
+        return self._core.ranges(ENUM_RESERVED_RANGE, self._index, count)
 
     @property
     def reserved_names(self) -> list[str]:
@@ -836,8 +658,7 @@ class EnumDescriptor(_Deprecated):
     @cached_property
     def values(self) -> list[EnumValueDescriptor]:
         """Its values, in the order of declaration."""
-        count = self._info.values
-        return [EnumValueDescriptor(self._core, self._index, at) for at in range(count)]
+        return parts_of(self._core, EnumValueDescriptor, self._index, self._info.values)
 
     def value(self, number: int) -> EnumValueDescriptor:
         """Its first value with a number, or a KeyError."""
@@ -860,7 +681,7 @@ class EnumDescriptor(_Deprecated):
 
     @cached_property
     def values_by_name(self) -> dict[str, EnumValueDescriptor]:
-        return _by_name(self.values)
+        return by_name(self.values)
 
     @cached_property
     def values_by_number(self) -> dict[int, EnumValueDescriptor]:
@@ -868,15 +689,13 @@ class EnumDescriptor(_Deprecated):
         return {value.number: value for value in reversed(self.values)}
 
 
-class EnumValueDescriptor(_Deprecated):
+class EnumValueDescriptor(Deprecated):
     """A value of an enum."""
 
+    _teller = ENUM_VALUE
     _kind = "enum_value"
     _options = "EnumValueOptions"
-
-    @cached_property
-    def _info(self) -> EnumValueInfo:
-        return self._core.told(lib.enum_value, EnumValueInfo(), self._index, self._position)
+    _record = "EnumValueDescriptorProto"
 
     @cached_property
     def index(self) -> int:
@@ -886,7 +705,8 @@ class EnumValueDescriptor(_Deprecated):
     @property
     def number(self) -> int:
         """Its number."""
-        return int(self._info.number)
+        number: int = self._info.number
+        return number
 
     @property
     def type(self) -> EnumDescriptor:
@@ -899,15 +719,13 @@ class EnumValueDescriptor(_Deprecated):
         return self.type.file
 
 
-class ServiceDescriptor(_Deprecated):
+class ServiceDescriptor(Deprecated):
     """A service of a pool."""
 
+    _teller = SERVICE
     _kind = "service"
     _options = "ServiceOptions"
-
-    @cached_property
-    def _info(self) -> ServiceInfo:
-        return self._core.told(lib.service, ServiceInfo(), self._index)
+    _record = "ServiceDescriptorProto"
 
     @property
     def file(self) -> FileDescriptor:
@@ -922,12 +740,11 @@ class ServiceDescriptor(_Deprecated):
     @cached_property
     def methods(self) -> list[MethodDescriptor]:
         """Its methods, in the order of declaration."""
-        count = self._info.methods
-        return [MethodDescriptor(self._core, self._index, at) for at in range(count)]
+        return parts_of(self._core, MethodDescriptor, self._index, self._info.methods)
 
     @cached_property
     def methods_by_name(self) -> dict[str, MethodDescriptor]:
-        return _by_name(self.methods)
+        return by_name(self.methods)
 
     def method(self, name: Name) -> MethodDescriptor:
         """The method with a name, or a KeyError."""
@@ -940,15 +757,13 @@ class ServiceDescriptor(_Deprecated):
     FindMethodByName = method
 
 
-class MethodDescriptor(_Deprecated):
+class MethodDescriptor(Deprecated):
     """A method of a service."""
 
+    _teller = METHOD
     _kind = "method"
     _options = "MethodOptions"
-
-    @cached_property
-    def _info(self) -> MethodInfo:
-        return self._core.told(lib.method, MethodInfo(), self._index, self._position)
+    _record = "MethodDescriptorProto"
 
     @cached_property
     def index(self) -> int:
@@ -986,7 +801,7 @@ class MethodDescriptor(_Deprecated):
         return bool(self._info.server_streaming)
 
 
-CLASSES: tuple[Optional[type[_Named]], ...] = (
+CLASSES: tuple[Optional[type[Named]], ...] = (
     None,
     Descriptor,
     FieldDescriptor,

@@ -9,14 +9,15 @@ __all__ = ["Change", "Changes", "Error", "Fault", "Place", "Refused", "TooMany",
 
 
 class Error(Exception):
-    """Why files are not linked. The pool is what it was."""
+    """Why files are not linked. The pool is what it was. All that are raised are also a TypeError, as
+    protobuf's own pool raises it."""
 
 
-class Unreadable(Error):
+class Unreadable(Error, TypeError):
     """The bytes are no such set or file, or the script has a fault."""
 
 
-class TooMany(Error):
+class TooMany(Error, TypeError):
     """There is too much of a kind, which is named."""
 
 
@@ -73,7 +74,7 @@ class Changes(list[Change]):
         self.more = more
 
 
-class Refused(Error):
+class Refused(Error, TypeError):
     """Files break rules: `faults` are those of the first pass that finds any, in order, a hundred
     of them or as many as `Pool.limit_faults` has set, and `more` is how many more there are."""
 
@@ -94,6 +95,11 @@ def fault_of(told: dict[str, Any]) -> Fault:
     members: dict[str, Any] = {name: told[name] for name in Fault._fields}
     members["related"] = [place_of(place) for place in told["related"]]
     return Fault(**members)
+
+
+def fault_at(file: str, code: str, message: str) -> Fault:
+    """A fault of a file, of which no more is known than its name."""
+    return Fault(code, message, file, None, None, None, None, [], "")
 
 
 def changes_of(told: dict[str, Any]) -> Changes:

@@ -7,10 +7,13 @@ import json
 import os
 import weakref
 from collections.abc import Callable, Iterable, Iterator
+from importlib import import_module
 from typing import Any, NamedTuple, Optional, Protocol, TypeVar, Union, cast
 
 from ._asked import Name, bytes_of, index_of, name_bytes, number_of, only, place_of
 from ._core import Core, new_core
+from ._database import Database, found_file, with_imports
+from ._described import Described, all_of, at_indexes
 from ._library import COMPATIBILITIES, KINDS, LEVELS, NONE, Item, lib
 from ._names import Found
 from ._records import name_of
@@ -26,7 +29,7 @@ from .descriptors import (
     OneofDescriptor,
     ServiceDescriptor,
 )
-from .faults import Changes, Fault, changes_of, fault_of
+from .faults import Changes, Error, Fault, Refused, changes_of, fault_at, fault_of
 
 __all__ = ["Added", "Buffer", "Counts", "Definition", "Message", "Pool", "pool_of"]
 
@@ -39,7 +42,7 @@ MOST_KEPT = 10_000
 PACKAGE: Found = (0, NONE, 0, NONE)
 """A package, of which there is no descriptor."""
 
-D = TypeVar("D")
+D = TypeVar("D", bound=Described)
 
 
 class Message(Protocol):
@@ -91,14 +94,18 @@ class Pool:
     and `pool[name]` is the descriptor of what it means.
     """
 
-    def __init__(self) -> None:
+    def __init__(self, descriptor_db: Optional[Database] = None) -> None:
+        """An empty pool. Where a database is given, a name that the pool does not have is looked for
+        there, and its file is linked, with those that it imports."""
         self._set_core(new_core())
+        self._core.database = descriptor_db
 
     def _set_core(self, core: Core) -> None:
         """Makes it the pool of a core. Descriptors know the core alone, so that what is kept of them
         makes no circle."""
         core.owner = weakref.ref(self)
         self._core = core
+        self._theirs: Optional[tuple[Core, Any, set[int]]] = None
         self._forget()
 
     def _forget(self) -> None:
@@ -110,7 +117,7 @@ class Pool:
         """Frees what the pool owns. It has no files then, and its descriptors raise a LookupError.
         It may be filled again: it has a core of its own for that, and other descriptors."""
         core, next_core = self._core, new_core()
-        next_core.owner = weakref.ref(self)
+        next_core.owner, next_core.database = weakref.ref(self), core.database
         try:
             core.close()
         finally:
@@ -132,13 +139,19 @@ class Pool:
     def __len__(self) -> int:
         return self.counts().files
 
+    def __bool__(self) -> bool:
+        """True, as that of protobuf's own pool, also where it has no files."""
+        return True
+
     def __contains__(self, full_name: object) -> bool:
-        return isinstance(full_name, (str, bytes)) and self._found(full_name) is not None
+        try:
+            return isinstance(full_name, (str, bytes)) and self._found(full_name) is not None
+        except KeyError:
+            return False
 
     def __getitem__(self, full_name: Name) -> Any:
-        core = self._core
-        kind, index, position, _ = core.found(name_bytes(full_name)) or PACKAGE
-        class_ = CLASSES[kind]
+        kind, index, position, _ = self._found(full_name) or PACKAGE
+        core, class_ = self._core, CLASSES[kind]
         if class_ is None:
             raise KeyError(f"the pool has no {full_name!r}")
         return class_(core, index, position)
@@ -240,11 +253,22 @@ class Pool:
     def linked_files(self) -> Iterator[bytes]:
         """The linked files, each as the bytes of its FileDescriptorProto, and behind those that it
         imports, as protobuf's own pool wants them. Of files that import each other one is first."""
-        return map(self.linked_file, self._imports_first())
+        return map(self.linked_file, self._imports_first(set()))
 
-    def _imports_first(self) -> Iterator[int]:
-        """The indexes of all files, each behind those of the files that it imports."""
-        seen: set[int] = set()
+    def to_protobuf(self) -> Any:
+        """A DescriptorPool of protobuf's package that has the linked files, for its message_factory.
+        A later call answers the same one, with the files that were added since."""
+        core, kept = self._core, self._theirs
+        if kept is None or kept[0] is not core:
+            kept = self._theirs = core, _protobuf_pool(), set()
+        _, theirs, handed_over = kept
+        for index in self._imports_first(set(handed_over)):
+            theirs.AddSerializedFile(self.linked_file(index))
+            handed_over.add(index)
+        return theirs
+
+    def _imports_first(self, seen: set[int]) -> Iterator[int]:
+        """The indexes of all files but some, each behind those of the files that it imports."""
         for index in range(len(self)):
             stack = [(index, iter([index]))]
             while stack:
@@ -268,35 +292,59 @@ class Pool:
     def find(self, full_name: Name) -> Optional[Definition]:
         """What a full name means, which may have one leading dot, or None."""
         told = self._core.defined(name_bytes(full_name))
+        if told is None and self._found(full_name) is not None:
+            told = self._core.defined(name_bytes(full_name))
         return None if told is None else Definition(KINDS[told[0]], *told[1:])
 
     def _found(self, full_name: Name) -> Optional[Found]:
-        return self._core.found(name_bytes(full_name))
+        """What a name means, where it is needed with a file of the database."""
+        core = self._core
+        found = core.found(name_bytes(full_name))
+        if found is None and core.database is not None:
+            if self._load("FindFileContainingSymbol", _text(full_name).lstrip(".")):
+                found = core.found(name_bytes(full_name))
+        return found
+
+    def _load(self, call: str, *asked: object) -> bool:
+        """Links a file that a call of the database finds, with those that it imports. Answers whether
+        there was one that the pool did not have. Raises a KeyError where they are not linked."""
+        core = self._core
+        file = None if core.database is None else found_file(core.database, call, *asked)
+        if file is None or self._has_file(file.name):
+            return False
+        try:
+            self.add_files(with_imports(core.database, file, self._has_file))
+        except Error as fault:
+            raise KeyError(f"the file of {asked[0]!r} is not linked: {fault}") from fault
+        return True
+
+    def _has_file(self, name: str) -> bool:
+        return self._core.file_named(name_bytes(name)) is not None
 
     def files(self) -> list[FileDescriptor]:
         """The files, in the order of linking."""
         core = self._core
-        return [FileDescriptor(core, index) for index in range(core.counts().files)]
+        return at_indexes(core, FileDescriptor, range(core.counts().files))
 
     def messages(self) -> list[Descriptor]:
         """The messages, nested ones too, in the order of linking."""
         core = self._core
-        return [Descriptor(core, index) for index in range(core.counts().messages)]
+        return all_of(core, Descriptor, core.counts().messages)
 
     def enums(self) -> list[EnumDescriptor]:
         """The enums, nested ones too, in the order of linking."""
         core = self._core
-        return [EnumDescriptor(core, index) for index in range(core.counts().enums)]
+        return all_of(core, EnumDescriptor, core.counts().enums)
 
     def services(self) -> list[ServiceDescriptor]:
         """The services, in the order of linking."""
         core = self._core
-        return [ServiceDescriptor(core, index) for index in range(core.counts().services)]
+        return all_of(core, ServiceDescriptor, core.counts().services)
 
     def extensions(self) -> list[ExtensionDescriptor]:
         """The extensions, nested ones too, in the order of linking."""
         core = self._core
-        return [ExtensionDescriptor(core, index) for index in range(core.counts().extensions)]
+        return all_of(core, ExtensionDescriptor, core.counts().extensions)
 
     def file(self, name: Name) -> FileDescriptor:
         """The file with a name, or a KeyError."""
@@ -305,9 +353,11 @@ class Pool:
         if kept is not None and kept._core is core:
             return kept
         index = core.file_named(name_bytes(name))
+        if index is None and self._load("FindFileByName", _text(name)):
+            index = core.file_named(name_bytes(name))
         if index is None:
             raise KeyError(f"the pool has no file {name!r}")
-        made = FileDescriptor(core, index)
+        made = core.held.one(core, FileDescriptor, index, 0)
         if len(files) >= MOST_KEPT:
             files.clear()
         files[name] = made
@@ -315,11 +365,11 @@ class Pool:
 
     def file_of(self, full_name: Name) -> FileDescriptor:
         """The file that declares a full name, or a KeyError; of a package the first that has it."""
-        core = self._core
-        found = core.found(name_bytes(full_name))
+        found = self._found(full_name)
         if found is None:
             raise KeyError(f"the pool has no {full_name!r}")
-        return FileDescriptor(core, found[3])
+        core = self._core
+        return core.held.one(core, FileDescriptor, found[3], 0)
 
     def message(self, full_name: Name) -> Descriptor:
         """The message with a full name, or a KeyError."""
@@ -368,21 +418,60 @@ class Pool:
 
     def FindExtensionByNumber(self, message: Descriptor, number: int) -> ExtensionDescriptor:
         """The extension of a message with a number, or a KeyError."""
-        return only(message, Descriptor, "a message is a Descriptor").extension(number)
+        extended = only(message, Descriptor, "a message is a Descriptor")
+        try:
+            return extended.extension(number)
+        except KeyError:
+            if not self._load("FindFileContainingExtension", extended.full_name, number):
+                raise
+            return extended.extension(number)
 
     def FindAllExtensions(self, message: Descriptor) -> list[ExtensionDescriptor]:
         """The extensions of the pool that extend a message, in the order of linking."""
-        return only(message, Descriptor, "a message is a Descriptor").all_extensions
+        extended = only(message, Descriptor, "a message is a Descriptor")
+        name, database = extended.full_name, self._core.database
+        for number in found_file(database, "FindAllExtensionNumbers", name) or ():
+            self._load("FindFileContainingExtension", name, number)
+        return extended.all_extensions
 
     def Add(self, file: Message) -> FileDescriptor:
-        """Links a FileDescriptorProto of protobuf's package, and answers the file with its name."""
+        """Links a FileDescriptorProto of protobuf's package, and answers the file with its name. A
+        file that the pool has is that. Raises a Refused where the pool has another of its name."""
         return self.AddSerializedFile(bytes_of(file, "FileDescriptorProto"))
 
     def AddSerializedFile(self, data: Buffer) -> FileDescriptor:
-        """Links the file of a FileDescriptorProto, and answers the file with its name."""
+        """The same of the bytes of a FileDescriptorProto."""
         record = bytes_of(data, "FileDescriptorProto")
-        self.add_file(record)
+        name = "" if self.add_file(record).differing == 0 else name_of(record)
+        if name:
+            raise Refused([fault_at(name, "UnequalFile", f"the pool has another file '{name}'")])
         return self.file(name_of(record))
+
+    def AddDescriptor(self, desc: Descriptor) -> None:
+        """Does nothing with a message of the pool, as protobuf's own pool. Raises a TypeError where
+        it is no descriptor of one, and a ValueError where it is of another pool."""
+        self._only_own(desc, Descriptor)
+
+    def AddEnumDescriptor(self, enum_desc: EnumDescriptor) -> None:
+        """The same with an enum."""
+        self._only_own(enum_desc, EnumDescriptor)
+
+    def AddServiceDescriptor(self, service_desc: ServiceDescriptor) -> None:
+        """The same with a service."""
+        self._only_own(service_desc, ServiceDescriptor)
+
+    def AddExtensionDescriptor(self, extension: ExtensionDescriptor) -> None:
+        """The same with an extension."""
+        self._only_own(extension, ExtensionDescriptor)
+
+    def AddFileDescriptor(self, file_desc: FileDescriptor) -> None:
+        """The same with a file."""
+        self._only_own(file_desc, FileDescriptor)
+
+    def _only_own(self, item: Any, wanted: type[Described]) -> None:
+        described = only(item, wanted, f"what is added is a {wanted.__name__}")
+        if described._core is not self._core:
+            raise ValueError(f"{described!r} is of another pool")
 
     # By index
 
@@ -396,21 +485,34 @@ class Pool:
         item = Item(place_of(kind, KINDS, "a kind"), index_of(index), index_of(position))
         return self._core.written(lib.full_name, item).decode()
 
-    def _named(self, full_name: Name, wanted: Callable[[Core, int, int], D]) -> D:
+    def _named(self, full_name: Name, wanted: type[D]) -> D:
         """The descriptor of what a name means, where it is of a kind."""
         core, known = self._core, self._kept
         kept = known.get((wanted, full_name))
         if kept is not None and kept._core is core:
             return cast(D, kept)
-        kind, index, position, _ = core.found(name_bytes(full_name)) or PACKAGE
+        kind, index, position, _ = self._found(full_name) or PACKAGE
         if CLASSES[kind] is not wanted:
             name = KINDS[CLASSES.index(cast(Any, wanted))].replace("_", " ")
             raise KeyError(f"the pool has no {name} {full_name!r}")
-        made = wanted(core, index, position)
+        made = core.held.one(core, wanted, index, position)
         if len(known) >= MOST_KEPT:
             known.clear()
         known[wanted, full_name] = made
         return made
+
+
+def _text(name: Name) -> str:
+    """A name as a database is asked for it."""
+    return name if isinstance(name, str) else name.decode(errors="replace")
+
+
+def _protobuf_pool() -> Any:
+    """An empty DescriptorPool of protobuf's package."""
+    try:
+        return import_module("google.protobuf.descriptor_pool").DescriptorPool()
+    except ImportError as fault:
+        raise ImportError(f"{fault}: this wants protobuf's package") from fault
 
 
 def pool_of(core: Core) -> Pool:

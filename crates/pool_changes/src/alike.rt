@@ -104,12 +104,12 @@ impl Telling<'_> {
 
     /// Whether two fields are in oneofs of one name, or in none.
     #[tactic(auto, using(crate::proofs::Same::oneof_both, crate::proofs::Same::oneof_neither))]
-    fn has_oneof_of(self, pair: &KeptPart<'_>) -> bool
+    fn has_oneof_of(self, pair: KeptPart<'_>) -> bool
         ensures { IsTrue result → are_alike
-            (oneof_side (writer (versions self.entry)) pair.now.messages.before.now
-            (part pair.now.before))
-            (oneof_side (reader (versions self.entry)) pair.now.messages.after.now
-            (part pair.now.after)) ≡ true }
+            (oneof_side (writer (versions self.entry)) pair.entry.messages.before.now
+            (part pair.entry.before))
+            (oneof_side (reader (versions self.entry)) pair.entry.messages.after.now
+            (part pair.entry.after)) ≡ true }
     {
         let messages = pair.messages;
         let before = oneof_in(self.writer(), messages.before, pair.before.entry.oneof);
@@ -138,12 +138,12 @@ impl Telling<'_> {
     /// Whether nothing changes of a field or an extension at json and at source, as far as is told
     /// without both sides.
     #[tactic(auto, using(crate::proofs::Same::json_none, crate::proofs::Same::source_none))]
-    pub(crate) fn is_untold(self, pair: &KeptPart<'_>) -> bool
+    pub(crate) fn is_untold(self, pair: KeptPart<'_>) -> bool
         ensures json { IsTrue result → spec.part_json (versions self.entry)
-            pair.now.messages.found.now (part pair.now.before) (part pair.now.after) ≡ [] }
+            pair.entry.messages.found.now (part pair.entry.before) (part pair.entry.after) ≡ [] }
         ensures source { IsTrue result → spec.part_source (versions self.entry)
-            pair.now.messages.before.now pair.now.messages.after.now
-            pair.now.messages.found.now (part pair.now.before) (part pair.now.after) ≡ [] }
+            pair.entry.messages.before.now pair.entry.messages.after.now
+            pair.entry.messages.found.now (part pair.entry.before) (part pair.entry.after) ≡ [] }
     {
         let (before, after) = (pair.before, pair.after);
         if !has_names_of(before, after) {

@@ -178,20 +178,39 @@ impl<'a> Telling<'a> {
     }
 
     /// Appends what changes at json and at source of a field or an extension that the reader's
-    /// message has too.
-    fn tell_kept_entry(self, told: &mut BehindWire, pair: &KeptPart<'_>) -> Result<(), AllocError>
+    /// message has too, where something may.
+    // Not inlined, since little changes of most that is compared.
+    #[inline(never)]
+    fn tell_differing_entry(
+        self,
+        told: &mut BehindWire,
+        pair: KeptPart<'_>,
+    ) -> Result<(), AllocError>
         ensures json { OnOk result (told.new.json ≡ told.old.json ++ part_json
-            (versions self.entry) pair.now.messages.found.now (part pair.now.before)
-            (part pair.now.after)) }
+            (versions self.entry) pair.entry.messages.found.now (part pair.entry.before)
+            (part pair.entry.after)) }
         ensures source { OnOk result (told.new.source ≡ told.old.source ++ part_source
-            (versions self.entry) pair.now.messages.before.now pair.now.messages.after.now
-            pair.now.messages.found.now (part pair.now.before) (part pair.now.after)) }
+            (versions self.entry) pair.entry.messages.before.now pair.entry.messages.after.now
+            pair.entry.messages.found.now (part pair.entry.before) (part pair.entry.after)) }
+    {
+        self.tell_part_json(&mut told.json, &pair)?;
+        self.tell_part_source(&mut told.source, &pair)
+    }
+
+    /// Appends what changes at json and at source of a field or an extension that the reader's
+    /// message has too.
+    fn tell_kept_entry(self, told: &mut BehindWire, pair: KeptPart<'_>) -> Result<(), AllocError>
+        ensures json { OnOk result (told.new.json ≡ told.old.json ++ part_json
+            (versions self.entry) pair.entry.messages.found.now (part pair.entry.before)
+            (part pair.entry.after)) }
+        ensures source { OnOk result (told.new.source ≡ told.old.source ++ part_source
+            (versions self.entry) pair.entry.messages.before.now pair.entry.messages.after.now
+            pair.entry.messages.found.now (part pair.entry.before) (part pair.entry.after)) }
     {
         if self.is_untold(pair) {
             return Ok(());
         }
-        self.tell_part_json(&mut told.json, pair)?;
-        self.tell_part_source(&mut told.source, pair)
+        self.tell_differing_entry(told, pair)
     }
 
     /// Appends what changes at json and at source of a field or an extension, which is looked up by
@@ -215,7 +234,7 @@ impl<'a> Telling<'a> {
                     before: field,
                     after: kept,
                 };
-                self.tell_kept_entry(told, &kept)
+                self.tell_kept_entry(told, kept)
             }
             None => self.tell_field_removed(&mut told.json, pair, field),
         }

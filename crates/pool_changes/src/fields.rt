@@ -82,6 +82,7 @@ pub(crate) fn extension_part_at(pool: &DescriptorPool, index: u32) -> Option<Par
 }
 
 /// The field of a message with a number, or else the extension.
+#[inline(always)]
 pub(crate) fn part_numbered<'a>(
     pool: &'a DescriptorPool,
     message: &'a MessageDescriptorInner,

@@ -5,7 +5,7 @@ ghost use Rattle.std.specs.List.{list_all};
 ghost use Rattle.pool_types.specs.declared.kinds.KindIndex.TheVariants as kind;
 ghost use Rattle.schema_changes.specs.Parts.{parts, has_value, values_of};
 ghost use Rattle.schema_changes.specs.Kinds.{holds, holds_all, is_plain};
-ghost use Rattle.schema_changes.specs.Kinds.{keeps_numbers, text_check, keeps_check, entry_check};
+ghost use Rattle.schema_changes.specs.Kinds.{keeps_numbers, keeps_check, entry_check};
 ghost use Rattle.schema_changes.specs.Kinds.{messages_of, keeps_cardinality};
 
 use crate::parts::{has_value_by, has_value_near};
@@ -133,22 +133,16 @@ pub(crate) fn keeps_numbers(
     }
 }
 
-/// Whether texts of a kind are checked to be UTF-8; none where it is no kind of texts or bytes.
-fn text_check(proto3: bool, kind: KindIndex) -> Option<bool>
-    ensures { result ≡ text_check proto3 kind }
-{
-    match kind {
-        KindIndex::String => Some(proto3),
-        KindIndex::Bytes => Some(false),
-        _ => None,
-    }
-}
-
-/// How the texts of an entry are checked.
+/// Whether the texts of an entry are checked to be UTF-8; none where its kind is none of texts or
+/// bytes.
 fn entry_check(items: &Parts<'_>, entry: &Entry) -> Option<bool>
     ensures { result ≡ entry_check (parts items.now) entry.now }
 {
-    text_check(items.in_proto3(entry.file), entry.kind)
+    match entry.kind {
+        KindIndex::String => Some(items.in_proto3(entry.file)),
+        KindIndex::Bytes => Some(false),
+        _ => None,
+    }
 }
 
 /// Whether texts that were not checked are not checked now.
