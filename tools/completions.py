@@ -28,7 +28,7 @@ class Option(NamedTuple):
 
 
 def options(told: str, ask: Callable[[str], str]) -> list[Option]:
-    """The options of a text of help; asked is what the program says of one without a value."""
+    """The options of a text of help; ask answers what the program says of one without its value."""
     found = {}
     for name, value, does in OPTION.findall(told):
         words = CHOICES.search(ask(name)) if value else None

@@ -352,8 +352,10 @@ def main() -> int:
     parser.add_argument("archive", nargs="?", type=Path, default=ARCHIVE, help="the built library")
     parser.add_argument("--peers", action="store_true", help="count the peers")
     parser.add_argument("--upb", type=Path, metavar="FOLDER", help="protobuf's sources, with upb")
-    parser.add_argument("--set", nargs=2, action="append", default=[], metavar=("NAME", "SET.pb"),
-                        dest="sets", help="one more row")
+    parser.add_argument(
+        "--set", nargs=2, action="append", default=[], metavar=("NAME", "SET.pb"), dest="sets",
+        help="one more row",
+    )
     options = parser.parse_args()
     try:
         others = [(name, Path(path).read_bytes()) for name, path in options.sets]
